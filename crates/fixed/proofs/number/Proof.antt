@@ -1,0 +1,13 @@
+-- `fixed::number` meets its contract: past its end a list has the default. Assumes nothing.
+use mathlib.Core.Path.{sym}
+use borrow.Author.Needs.{needs}
+use lib.IntN.{pos}
+use lib.ListN.{List·getD-eq-default}
+use Rattle.fixed.proofs.number.Statement.{statement}
+use Rattle.fixed.proofs.number.Tie as tie
+
+past : tie.Need-returns-2
+past c = sym (List·getD-eq-default (c .before .args .table .now) (pos 0) (search needs))
+
+pub number-spec : {M : Type 1} → statement M
+number-spec = tie.close (tie.spec (λ c. search needs) (λ c. search needs) (λ c. search needs) past)

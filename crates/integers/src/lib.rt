@@ -1,0 +1,1 @@
+// No code: definitions and laws on signed whole numbers, which the other crates cite.

@@ -1,0 +1,4 @@
+pub mod All
+pub mod Part
+pub mod Rows
+pub mod Ring
