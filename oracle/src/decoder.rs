@@ -1,0 +1,104 @@
+//! A decoder by document 01 around a variant of the Rust: the refusals are ours, the sound its own.
+
+use crate::judge::Judge;
+use crate::line;
+
+pub const LARGEST_SAMPLE: f64 = 1_048_576.0;
+
+/// One call: line, lent input, lengths of the lent outputs, spectrum edge.
+#[derive(Clone)]
+pub struct Frame {
+    pub line: Vec<u8>,
+    pub input: Vec<f64>,
+    pub left: usize,
+    pub right: usize,
+    pub edge: u64,
+}
+
+#[derive(Clone)]
+pub struct Run {
+    pub asked: u64,
+    pub frames: Vec<Frame>,
+}
+
+/// The answer; the outputs have numbers only where it is 0.
+pub struct Outcome {
+    pub answer: u8,
+    pub left: Vec<f64>,
+    pub right: Vec<f64>,
+}
+
+pub fn slots_of(asked: u64) -> usize {
+    asked.clamp(6, 32) as usize
+}
+
+pub struct Decoder<J> {
+    pub judge: J,
+    pub slots: usize,
+    configured: bool,
+}
+
+impl<J: Judge> Decoder<J> {
+    pub fn fresh(asked: u64) -> Self {
+        let judge = J::fresh(usize::try_from(asked).unwrap_or(usize::MAX));
+        Decoder {
+            judge,
+            slots: slots_of(asked),
+            configured: false,
+        }
+    }
+
+    /// The refusals in document 01's order; the Rust sees accepted frames only.
+    pub fn frame(&mut self, frame: &Frame) -> Outcome {
+        let bytes = match self.accepted(frame) {
+            Ok(bytes) => bytes,
+            Err(answer) => {
+                return Outcome {
+                    answer,
+                    left: Vec::new(),
+                    right: Vec::new(),
+                };
+            }
+        };
+        self.configured = true;
+        let edge = frame.edge.min(64) as usize;
+        let (left, right) = self.judge.frame(bytes.as_deref(), &frame.input, edge);
+        Outcome {
+            answer: 0,
+            left,
+            right,
+        }
+    }
+
+    fn accepted(&self, frame: &Frame) -> Result<Option<Vec<u8>>, u8> {
+        let bytes = line::bytes_of(&frame.line)?;
+        if bytes.is_none() && !self.configured {
+            return Err(1);
+        }
+        let read = (self.slots + 6) * 128;
+        let written = self.slots * 128;
+        let input = &frame.input;
+        if input.len() % 128 != 0 || input.len() < read {
+            return Err(5);
+        }
+        if frame.left != written || frame.right != written {
+            return Err(5);
+        }
+        if input[..read]
+            .iter()
+            .any(|sample| !(sample.abs() <= LARGEST_SAMPLE))
+        {
+            return Err(6);
+        }
+        Ok(bytes)
+    }
+}
+
+/// A whole run from fresh state: every answer and every output number.
+pub fn play<J: Judge>(run: &Run) -> Vec<Outcome> {
+    let mut decoder = Decoder::<J>::fresh(run.asked);
+    run.frames
+        .iter()
+        .map(|frame| decoder.frame(frame))
+        .collect()
+}

@@ -1,0 +1,81 @@
+//! The oracle: the Rust that was ported, asked by generated runs. See oracle/README.md.
+
+mod bits;
+mod compare;
+mod coverage;
+mod decoder;
+mod judge;
+mod line;
+mod lines;
+mod listing;
+mod random;
+mod runs;
+mod samples;
+mod shrink;
+mod smallest;
+mod table_check;
+mod table_data;
+mod tabled;
+mod tables;
+mod untouched;
+
+use std::process::ExitCode;
+
+const USAGE: &str = "usage: oracle tables
+       oracle variants [--frames N] [--seed S] [--faint]
+       oracle stages [--frames N] [--seed S]
+       oracle shrink --seed RUN_SEED [--faint]
+       oracle smallest
+       oracle indices < LINES
+       oracle maps < ROWS
+       oracle lines [--count N] [--seed S]";
+
+/// The number after an option, or its default; a bad one ends the program.
+fn option(words: &[String], name: &str, default: u64) -> u64 {
+    let Some(place) = words.iter().position(|word| word == name) else {
+        return default;
+    };
+    match words.get(place + 1).map(|word| word.parse()) {
+        Some(Ok(number)) => number,
+        _ => {
+            eprintln!("oracle: {name} needs a number");
+            std::process::exit(2);
+        }
+    }
+}
+
+/// A misspelt option must not pass for its default.
+fn known(word: &String) -> bool {
+    !word.starts_with('-') || ["--frames", "--count", "--seed", "--faint"].contains(&word.as_str())
+}
+
+fn main() -> ExitCode {
+    let words: Vec<String> = std::env::args().skip(1).collect();
+    if !words.iter().all(known) {
+        eprintln!("{USAGE}");
+        return ExitCode::from(2);
+    }
+    let frames = option(&words, "--frames", 10_000) as usize;
+    let count = option(&words, "--count", 1_000) as usize;
+    let seed = option(&words, "--seed", 1);
+    let faint = words.iter().any(|word| word == "--faint");
+    let held = match words.first().map(String::as_str) {
+        Some("tables") => table_check::check(),
+        Some("variants") => compare::variants(frames, seed, faint),
+        Some("stages") => compare::stages(frames, seed),
+        Some("shrink") => shrink::shrink(seed, faint),
+        Some("smallest") => smallest::search(),
+        Some("indices") => listing::indices(),
+        Some("maps") => listing::maps(),
+        Some("lines") => listing::print_lines(count, seed),
+        _ => {
+            eprintln!("{USAGE}");
+            return ExitCode::from(2);
+        }
+    };
+    if held {
+        ExitCode::SUCCESS
+    } else {
+        ExitCode::FAILURE
+    }
+}
