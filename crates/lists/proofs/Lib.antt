@@ -6,3 +6,4 @@ pub mod Rows
 pub mod Maps
 pub mod Alls
 pub mod Ring
+pub mod Held

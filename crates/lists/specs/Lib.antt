@@ -2,3 +2,4 @@ pub mod All
 pub mod Part
 pub mod Rows
 pub mod Ring
+pub mod Held

@@ -1,0 +1,3 @@
+pub mod Pairs
+pub mod Sizes
+pub mod Times

@@ -1,0 +1,43 @@
+-- `cue::digits::all_digits` meets its contract: the characters passed are digits, so the rest decides. Assumes nothing.
+use borrow.Author.Needs.{needs}
+use borrow.Author.Tests.{not-true, not-false}
+use mathlib.Core.Path.{_≡_, refl, sym, _∙_}
+use Prim.Native.Nat.{_≤_, _-_}
+use native.Mathlib.Omega.{arith}
+use lib.ListN.{length, drop}
+use Rattle.lists.specs.All.{all}
+use Rattle.lists.proofs.Alls.{all-passed, all-failed, all-done}
+use Rattle.cue.specs.Digits.{isDigit}
+use Rattle.cue.proofs.digits.all_digits.Statement.{statement}
+use Rattle.cue.proofs.digits.all_digits.Tie as tie
+
+abbrev Inv-loop : tie.InvT-loop
+Inv-loop text i₀ i = (i ≤ length text) × (all isDigit text ≡ all isDigit (drop i text))
+
+abbrev μ-loop : tie.MeasureT-loop
+μ-loop text i₀ i = length text - i
+
+other-character : tie.Need-returns Inv-loop μ-loop
+other-character c =
+    let b = c .before .before .before .before in
+    all-failed isDigit (b .before .before .args .text .now) (b .loop .i) 0 (omega arith)
+    (sym (c .before .is-digit .ensures) ∙ not-true _ (c .if1 .taken))
+    (b .loop .inv .1)
+
+loop-again : tie.Need-loop-again Inv-loop μ-loop
+loop-again c =
+    let b = c .before .before .before .before in (
+      omega arith,
+      all-passed isDigit (b .before .before .args .text .now) (b .loop .i) 0 (omega arith)
+          (sym (c .before .is-digit .ensures) ∙ not-false _ (c .if1 .left))
+          (b .loop .inv .1),
+    )
+
+digits : tie.Need-returns-2 Inv-loop μ-loop
+digits c =
+    all-done isDigit (c .before .before .before .args .text .now) (c .before .loop .i) (omega arith) (c .before .loop .inv .1)
+
+pub all-digits-spec : {M : Type 1} → statement M
+all-digits-spec =
+    tie.close
+    (tie.spec Inv-loop μ-loop (λ c. (omega arith, refl)) (λ c. search needs) (λ c κs. search needs) other-character (λ c. search needs) (λ c. search needs) loop-again digits)

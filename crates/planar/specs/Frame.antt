@@ -1,0 +1,27 @@
+-- A frame in flat lists: the hybrid samples, for each of 91 channels a run of 32 slots; and a band's coefficients, four runs of 32 slots.
+-- Assumes nothing.
+use Prim.Native.Nat.{ℕ, _*_}
+use mathlib.Core.List.{List, [], _∷_, _++_}
+use lib.Ieee.{Float}
+use Rattle.complex.specs.declared.Complex.{Complex}
+use Rattle.lists.specs.Part.{part}
+use Rattle.standard.specs.declared.Matrix.{Matrix}
+use Rattle.planar.specs.Cells.{cell, planar}
+
+-- slot n of channel k
+abbrev pub sampleAt : List Float → ℕ → ℕ → Complex
+sampleAt samples n k = cell 32 (part (64 * k) 64 samples) n
+
+-- slot n's coefficients, and the list of all of them
+abbrev pub matrixAt : List Float → ℕ → Matrix
+matrixAt runs n = record { h11 = cell 32 (part 0 64 runs) n; h12 = cell 32 (part 64 64 runs) n; h21 = cell 32 (part 128 64 runs) n; h22 = cell 32 (part 192 64 runs) n }
+
+abbrev pub matrixRuns : (ℕ → Matrix) → List Float
+matrixRuns h = planar 32 (λ n. h n .h11) ++ (planar 32 (λ n. h n .h12) ++ (planar 32 (λ n. h n .h21) ++ planar 32 (λ n. h n .h22)))
+
+-- coefficients kept as eight numbers, the parts of each side by side, and those numbers
+abbrev pub keptMatrix : List Float → Matrix
+keptMatrix numbers = record { h11 = cell 1 numbers 0; h12 = cell 1 numbers 2; h21 = cell 1 numbers 4; h22 = cell 1 numbers 6 }
+
+abbrev pub numbersOf : Matrix → List Float
+numbersOf h = h .h11 .re ∷ h .h11 .im ∷ h .h12 .re ∷ h .h12 .im ∷ h .h21 .re ∷ h .h21 .im ∷ h .h22 .re ∷ h .h22 .im ∷ []

@@ -1,0 +1,4 @@
+pub mod Bands
+pub mod Tables
+pub mod Maps
+pub mod Standalone

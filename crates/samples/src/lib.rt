@@ -1,0 +1,1 @@
+// No code: document 01's table of samples, with a single claim over all of its rows.

@@ -1,0 +1,6 @@
+pub mod Numbers
+pub mod Channel
+pub mod Detector
+pub mod Mixing
+pub mod Interpolation
+pub mod Hybrid
