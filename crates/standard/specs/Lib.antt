@@ -4,3 +4,4 @@ pub mod Detector
 pub mod Mixing
 pub mod Interpolation
 pub mod Hybrid
+pub mod Core

@@ -61,7 +61,7 @@ pub record Kept : Type 0 where
   pub ipd : Phases
   pub opd : Phases
 
-abbrev noPhases : Phases
+abbrev pub noPhases : Phases
 noPhases = record { oldest = pos 0; previous = pos 0 }
 
 abbrev pub freshKept : Kept

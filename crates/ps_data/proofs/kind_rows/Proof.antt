@@ -2,8 +2,6 @@
 use borrow.Author.Needs.{needs}
 use borrow.Author.Tests.{not-true, not-false}
 use mathlib.Core.Path.{ap, _∙_}
-use mathlib.Core.List.{List}
-use Prim.Native.Nat.{ℕ}
 use Rattle.ps_rows.specs.Rows.{resolveKind}
 use Rattle.ps_data.proofs.Lent.{lent-from}
 use Rattle.ps_data.proofs.kind_rows.Statement.{statement}
