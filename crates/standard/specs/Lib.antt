@@ -5,3 +5,4 @@ pub mod Mixing
 pub mod Interpolation
 pub mod Hybrid
 pub mod Core
+pub mod Isolation

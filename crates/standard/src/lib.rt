@@ -1,5 +1,5 @@
 // Parametric stereo as §8.6.4 of the standard has it: definitions in specs/ that know nothing of rings, places or loops. The crates of the decoder
-// are proved to keep them. Here stand only the types that code and definitions share.
+// are proved to keep them; proofs/ has what holds of the definitions alone. Here stand only the types that code and definitions share.
 use complex::Complex;
 
 // A link of an all-pass chain: Q(k, m), and a(m) g(k).

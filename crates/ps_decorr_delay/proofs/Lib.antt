@@ -1,0 +1,4 @@
+pub mod Copies
+pub mod Past
+pub mod Passed
+pub mod Places

@@ -1,0 +1,6 @@
+pub mod Literals
+pub mod Rows
+pub mod Slots
+pub mod Detectors
+pub mod Powers
+pub mod Ducks

@@ -1,0 +1,37 @@
+-- `ps_decorr_transient::clear_row` meets its contract: each turn clears one slot more. Assumes nothing.
+use mathlib.Core.Path.{_≡_}
+use Prim.Native.Nat.{_≤_, _-_}
+use borrow.Author.Needs.{needs}
+use native.Mathlib.Omega.{arith}
+use Rattle.standard.specs.Numbers as numbers
+use Rattle.ps_decorr_transient.specs.Rows.{Row}
+use Rattle.ps_decorr_transient.proofs.Literals.{zero-is}
+use Rattle.ps_decorr_transient.proofs.Rows.{row-none, row-more}
+use Rattle.ps_decorr_transient.proofs.clear_row.Statement.{statement}
+use Rattle.ps_decorr_transient.proofs.clear_row.Tie as tie
+
+abbrev Inv-loop : tie.InvT-loop
+Inv-loop gains₀ at slots n₀ gains n = (n ≤ slots) × Row (λ m. numbers.zero) at n gains₀ gains
+
+abbrev μ-loop : tie.MeasureT-loop
+μ-loop gains₀ at slots n₀ gains n = slots - n
+
+loop-holds : tie.Need-loop-holds Inv-loop μ-loop
+loop-holds c = (omega arith, row-none _ _ _)
+
+loop-again : tie.Need-loop-again Inv-loop μ-loop
+loop-again c =
+    let l = c .before in
+    (omega arith, row-more (l .loop .inv .1) _ zero-is (omega arith))
+
+returns : tie.Need-returns Inv-loop μ-loop
+returns c =
+    let l = c .before in
+    let e : l .loop .n ≡ l .before .args .slots = omega arith in
+    rw e at (l .loop .inv .1)
+
+pub clear-row-spec : {M : Type 1} → statement M
+clear-row-spec =
+    tie.close
+    (tie.spec Inv-loop μ-loop loop-holds (λ c. search needs) (λ c. search needs) (λ c. search needs) (λ c. search needs) (λ c. search needs) loop-again
+    (λ c. search needs) returns)

@@ -1,0 +1,94 @@
+-- `ps_hybrid_analysis::split_bands` meets its contract: after p turns the channels and the histories of the first p bands are done. Assumes nothing.
+use mathlib.Core.Path.{_≡_, ap, _∙_}
+use mathlib.Core.List.{List}
+use Prim.Native.Nat.{ℕ, _+_, _-_, _*_, _<_, _≤_}
+use native.Mathlib.Omega.{arith}
+use borrow.Author.Needs.{needs}
+use lib.Ieee.{Float}
+use lib.ListN.{length}
+use Rattle.layout.specs.declared.Layout.{Layout}
+use Rattle.layout.specs.Numbers.{splitOf}
+use Rattle.lists.specs.Part.{part}
+use Rattle.planar.specs.Cells.{planar}
+use Rattle.planar.proofs.Cells.{planar-length}
+use Rattle.standard.specs.Hybrid.{spanOf, hybrid}
+use Rattle.ps_hybrid_analysis.specs.Analysis.{slotAt}
+use Rattle.ps_hybrid_analysis.specs.Stages.{Written, Kept, bandAt}
+use Rattle.ps_hybrid_analysis.proofs.Channels.{width, written-none}
+use Rattle.ps_hybrid_analysis.proofs.History.{kept-none, kept-lent, history-long, history-lent}
+use Rattle.ps_hybrid_analysis.proofs.Spans.{split-most, span-first, span-last}
+use Rattle.ps_hybrid_analysis.proofs.Split.{split-on}
+use Rattle.ps_hybrid_analysis.proofs.split_bands.Statement.{statement}
+use Rattle.ps_hybrid_analysis.proofs.split_bands.Tie as tie
+
+record Inv (l : Layout) (input : List Float) (slots split : ℕ) (history₀ history samples₀ samples : List Float) (p : ℕ) : Type 0 where
+  pub few : split ≤ 5
+  pub within : p ≤ split
+  pub kept : Kept p (λ b. planar 6 (λ j. bandAt (part (12 * b) 12 history₀) input b (slots + j))) history₀ history
+  pub written : Written slots 0 (spanOf l p) (λ k n. hybrid l (slotAt l history₀ input) n k) samples₀ samples
+
+abbrev Inv-loop : tie.InvT-loop
+Inv-loop layout history₀ input slots samples₀ split p₀ history samples p = Inv layout input slots split history₀ history samples₀ samples p
+
+abbrev μ-loop : tie.MeasureT-loop
+μ-loop layout history₀ input slots samples₀ split p₀ history samples p = split - p
+
+loop-holds : tie.Need-loop-holds Inv-loop μ-loop
+loop-holds c =
+    let s = c .before .before .before .before in
+    record {
+      few = omega (arith, c .split .ensures, split-most (s .args .layout));
+      within = omega arith;
+      kept = kept-none _ _;
+      written = rw (span-first (s .args .layout)) (written-none _ _ _ _);
+    }
+
+part-end : tie.Need-part-split-band-end Inv-loop μ-loop
+part-end c = omega (arith, c .before .loop .inv .kept .long)
+
+split-band-requires : tie.Need-split-band-requires Inv-loop μ-loop
+split-band-requires c κs =
+    let l = c .before .before .before in
+    let s = l .before .before .before .before .before in
+    let p = l .loop .p in (
+      (
+        omega (arith, l .before .split .ensures),
+        (s .pre .0 .0, history-long p (12 * p + 12 - 12 * p) (l .loop .history) (width _ _) (l .loop .inv .kept .long ∙ s .pre .0 .1) (omega arith)),
+      ),
+      (s .pre .1 .0, l .loop .inv .written .long ∙ s .pre .1 .1),
+    )
+
+loop-again : tie.Need-loop-again Inv-loop μ-loop
+loop-again c =
+    let r = c .before .before .before .before in
+    let l = r .before .before .before .before in
+    let s = l .before .before .before .before .before in
+    let a = s .args in
+    let p = l .loop .p in
+    let w = 12 * p + 12 - 12 * p in
+    let room : p < 5 = omega (arith, l .loop .inv .few) in
+    let less : p < splitOf (a .layout) = omega (arith, l .before .split .ensures) in
+    let lent = history-lent w (l .loop .inv .kept) (width (12 * p) 12) room in
+    let new = r .split-band .ensures .0 ∙ ap (λ (t : List Float). planar 6 (λ j. bandAt t (a .input .now) p (a .slots + j))) lent in
+    record {
+      few = l .loop .inv .few;
+      within = omega arith;
+      kept = kept-lent w (r .split-band .last .1 .1 .0) (l .loop .inv .kept) (s .pre .0 .1) (width (12 * p) 12) new (ap length new ∙ planar-length 6 _) room;
+      written =
+          split-on (a .layout) (slotAt (a .layout) (a .history .now) (a .input .now)) p (bandAt (part (12 * p) w (l .loop .history)) (a .input .now) p)
+          (l .loop .inv .written) (r .split-band .ensures .1)
+          (λ j. ap (λ (t : List Float). bandAt t (a .input .now) p j) lent) (s .pre .0 .0) less;
+    }
+
+returns : tie.Need-returns Inv-loop μ-loop
+returns c =
+    let l = c .before in
+    let layout = l .before .before .before .before .before .args .layout in
+    let all : l .loop .p ≡ splitOf layout = omega (arith, l .before .split .ensures) in
+    (rw all at (l .loop .inv .kept), rw (all, span-last layout) at (l .loop .inv .written))
+
+pub split-bands-spec : {M : Type 1} → statement M
+split-bands-spec =
+    tie.close
+    (tie.spec Inv-loop μ-loop (λ c κs. search needs) loop-holds (λ c. search needs) (λ c. search needs) (λ c. search needs) (λ c. search needs) (λ c. search needs) part-end split-band-requires (λ c. search needs) (λ c. omega arith) loop-again
+    (λ c. c .before .loop .inv .kept .long) (λ c. c .before .loop .inv .written .long) returns)

@@ -1,0 +1,83 @@
+// One filter of 13 taps: its taps, and its answer over the slots of a frame. Complex numbers stand in runs, the imaginary parts behind the real ones.
+use super::plan;
+use complex::Complex;
+use decimals::Prototype;
+ghost use mathlib.Core.Path.{_≡_};
+ghost use Prim.Native.Nat.{_+_, _<_, _≤_};
+ghost use lib.ListN.{length};
+ghost use Rattle.complex.specs.Operations.{sum};
+ghost use Rattle.decimals.specs.Prototypes.{prototypeOf};
+ghost use Rattle.planar.specs.Cells.{cell, planar, overwritten};
+ghost use Rattle.standard.specs.Hybrid.{tap};
+ghost use Rattle.ps_hybrid_analysis.specs.Stages.{rootsOf, convolved};
+ghost use Rattle.ps_hybrid_analysis.specs.Stages as stages;
+
+// A tap g of a prototype, modulated for filter q.
+fn modulated(prototype: Prototype, roots: &[i64], g: f64, q: usize, m: usize) -> Complex
+    requires { ⌜ (q < 12) × (m < 13) ⌝ }
+    requires { ⌜ now roots ≡ rootsOf prototype ⌝ }
+    ensures { λ r. ⌜ r ≡ stages.modulated prototype g q m ⌝ }
+{
+    let turn = plan::turn(prototype, q, m);
+    let root = fixed::pair(roots, 2 * turn);
+    if plan::is_complex(prototype) {
+        Complex {
+            re: g * root.re,
+            im: g * root.im,
+        }
+    } else {
+        Complex {
+            re: g * root.re,
+            im: 0.0,
+        }
+    }
+}
+
+// The 13 taps of filter q.
+pub fn taps(prototype: Prototype, roots: &[i64], g: &[f64], q: usize, out: &mut [f64])
+    requires { ⌜ (now roots ≡ rootsOf prototype) × (now g ≡ prototypeOf prototype) ⌝ }
+    requires { ⌜ (q < 12) × (length (now out) ≡ 26) ⌝ }
+    ensures { λ _. ⌜ now (out .exit) ≡ planar 13 (tap prototype q) ⌝ }
+{
+    for m in 0..13 {
+        let v = modulated(prototype, roots, g[m], q, m);
+        out[m] = v.re;
+        out[m + 13] = v.im;
+    }
+}
+
+// The taps over a band's slots, from 0 in tap order: tap m meets the slot at n + 12 - m.
+fn convolved(taps: &[f64], band: &[f64], n: usize) -> Complex
+    requires { ⌜ (length (now taps) ≡ 26) × ((length (now band) ≡ 88) × (n < 32)) ⌝ }
+    ensures { λ r. ⌜ r ≡ stages.convolved (cell 13 (now (taps .entry))) (cell 44 (now (band .entry))) n 13 ⌝ }
+{
+    let mut re = 0.0;
+    let mut im = 0.0;
+    for m in 0..13 {
+        let j = n + 12 - m;
+        let a = taps[m];
+        let b = taps[m + 13];
+        let c = band[j];
+        let d = band[j + 44];
+        re = re + (a * c - b * d);
+        im = im + (a * d + b * c);
+    }
+    Complex { re: re, im: im }
+}
+
+// A filter's answer, added to a hybrid channel.
+pub fn join(taps: &[f64], band: &[f64], slots: usize, run: &mut [f64])
+    requires { ⌜ (length (now taps) ≡ 26) × (length (now band) ≡ 88) ⌝ }
+    requires { ⌜ (length (now run) ≡ 64) × (slots ≤ 32) ⌝ }
+    ensures { λ _. ⌜ now (run .exit) ≡ planar 32 (overwritten slots
+        (λ n. sum (cell 32 (now (run .entry)) n) (stages.convolved (cell 13 (now (taps .entry))) (cell 44 (now (band .entry))) n 13))
+        (cell 32 (now (run .entry)))) ⌝ }
+{
+    for n in 0..slots {
+        let y = convolved(taps, band, n);
+        let re = run[n] + y.re;
+        let im = run[n + 32] + y.im;
+        run[n] = re;
+        run[n + 32] = im;
+    }
+}

@@ -1,0 +1,243 @@
+// Hybrid analysis of a frame (source document 002, §8.6.4.3): the lowest QMF bands split by filters of 13 taps, the others passed on.
+mod band;
+mod filter;
+mod plan;
+
+use answer::Answer;
+use decimals::Prototype;
+use layout::Layout;
+ghost use mathlib.Core.Path.{_≡_};
+ghost use Prim.Native.Nat.{suc, _+_, _-_, _*_, _<_, _≤_};
+ghost use lib.ListN.{length};
+ghost use Rattle.borders.specs.Borders.{slotsOf};
+ghost use Rattle.complex.specs.Operations.{sum};
+ghost use Rattle.decimals.specs.Prototypes.{prototypeOf};
+ghost use Rattle.layout.specs.Numbers.{splitOf, unsplitFromOf, channelsOf};
+ghost use Rattle.lists.specs.Part.{part};
+ghost use Rattle.planar.specs.Cells.{cell, planar, overwritten};
+ghost use Rattle.planar.specs.Frame.{sampleAt};
+ghost use Rattle.standard.specs.Numbers.{nought};
+ghost use Rattle.standard.specs.Hybrid.{prototypeFor, filtersOf, channelFor, spanOf, filtered, joinedTo, hybrid};
+ghost use Rattle.ps_hybrid_analysis.specs.Analysis.{slotAt, answerOf, historyAfter, samplesAfter};
+ghost use Rattle.ps_hybrid_analysis.specs.Stages.{rootsOf, bandAt, Written, Blank, Kept};
+
+// A channel's slots are 0, before its filters are added.
+fn silence_run(run: &mut [f64], slots: usize)
+    requires { ⌜ (length (now run) ≡ 64) × (slots ≤ 32) ⌝ }
+    ensures { λ _. ⌜ now (run .exit) ≡ planar 32 (overwritten slots (λ n. nought) (cell 32 (now (run .entry)))) ⌝ }
+{
+    for n in 0..slots {
+        run[n] = 0.0;
+        run[n + 32] = 0.0;
+    }
+}
+
+// The channels of a split band.
+fn silence(samples: &mut [f64], from: usize, to: usize, slots: usize)
+    requires { ⌜ (from ≤ to) × (to ≤ 91) ⌝ }
+    requires { ⌜ (length (now samples) ≡ 5824) × (slots ≤ 32) ⌝ }
+    ensures { λ _. ⌜ Written slots from to (λ k n. nought) (now (samples .entry)) (now (samples .exit)) ⌝ }
+{
+    for k in from..to {
+        let at = 64 * k;
+        silence_run(&mut samples[at..at + 64], slots);
+    }
+}
+
+// Filter q of QMF band p, added to its hybrid channel.
+fn apply(
+    layout: Layout,
+    p: usize,
+    prototype: Prototype,
+    roots: &[i64],
+    g: &[f64],
+    q: usize,
+    band: &[f64],
+    slots: usize,
+    samples: &mut [f64],
+)
+    requires { ⌜ (prototype ≡ prototypeFor layout p) × ((p < splitOf layout) × (q < filtersOf prototype)) ⌝ }
+    requires { ⌜ (now roots ≡ rootsOf prototype) × (now g ≡ prototypeOf prototype) ⌝ }
+    requires { ⌜ (length (now band) ≡ 88) × ((length (now samples) ≡ 5824) × (slots ≤ 32)) ⌝ }
+    ensures { λ _. ⌜ Written slots (channelFor layout p q) (channelFor layout p q + 1)
+        (λ k n. sum (sampleAt (now (samples .entry)) n k) (filtered prototype q (cell 44 (now (band .entry))) n))
+        (now (samples .entry)) (now (samples .exit)) ⌝ }
+{
+    let mut taps = [0.0; 26];
+    filter::taps(prototype, roots, g, q, &mut taps);
+    let k = plan::channel(layout, p, q);
+    let at = 64 * k;
+    filter::join(&taps, band, slots, &mut samples[at..at + 64]);
+}
+
+// The filters of QMF band p in their order, over channels that are 0.
+fn apply_all(
+    layout: Layout,
+    p: usize,
+    prototype: Prototype,
+    roots: &[i64],
+    g: &[f64],
+    band: &[f64],
+    slots: usize,
+    samples: &mut [f64],
+)
+    requires { ⌜ (prototype ≡ prototypeFor layout p) × (p < splitOf layout) ⌝ }
+    requires { ⌜ (now roots ≡ rootsOf prototype) × (now g ≡ prototypeOf prototype) ⌝ }
+    requires { ⌜ (length (now band) ≡ 88) × ((length (now samples) ≡ 5824) × (slots ≤ 32)) ⌝ }
+    requires { ⌜ Blank slots (spanOf layout p) (spanOf layout (suc p)) (now samples) ⌝ }
+    ensures { λ _. ⌜ Written slots (spanOf layout p) (spanOf layout (suc p))
+        (λ k n. joinedTo layout p (cell 44 (now (band .entry))) n k (filtersOf prototype)) (now (samples .entry)) (now (samples .exit)) ⌝ }
+{
+    let count = plan::filters_of(prototype);
+    for q in 0..count {
+        apply(layout, p, prototype, roots, g, q, band, slots, samples);
+    }
+}
+
+// The prototype and its unit roots, made once for a band.
+fn modulate(
+    layout: Layout,
+    p: usize,
+    prototype: Prototype,
+    band: &[f64],
+    slots: usize,
+    samples: &mut [f64],
+)
+    requires { ⌜ (prototype ≡ prototypeFor layout p) × (p < splitOf layout) ⌝ }
+    requires { ⌜ (length (now band) ≡ 88) × ((length (now samples) ≡ 5824) × (slots ≤ 32)) ⌝ }
+    requires { ⌜ Blank slots (spanOf layout p) (spanOf layout (suc p)) (now samples) ⌝ }
+    ensures { λ _. ⌜ Written slots (spanOf layout p) (spanOf layout (suc p))
+        (λ k n. joinedTo layout p (cell 44 (now (band .entry))) n k (filtersOf prototype)) (now (samples .entry)) (now (samples .exit)) ⌝ }
+{
+    let g = prototype.taps();
+    match plan::order(prototype) {
+        8 => {
+            let roots = root_table::roots_8();
+            apply_all(layout, p, prototype, &roots, &g, band, slots, samples);
+        }
+        16 => {
+            let roots = root_table::roots_16();
+            apply_all(layout, p, prototype, &roots, &g, band, slots, samples);
+        }
+        _ => {
+            let roots = root_table::roots_24();
+            apply_all(layout, p, prototype, &roots, &g, band, slots, samples);
+        }
+    }
+}
+
+// The hybrid channels of QMF band p, from its slots.
+fn filter_band(layout: Layout, p: usize, band: &[f64], slots: usize, samples: &mut [f64])
+    requires { ⌜ p < splitOf layout ⌝ }
+    requires { ⌜ (length (now band) ≡ 88) × ((length (now samples) ≡ 5824) × (slots ≤ 32)) ⌝ }
+    ensures { λ _. ⌜ Written slots (spanOf layout p) (spanOf layout (suc p))
+        (λ k n. joinedTo layout p (cell 44 (now (band .entry))) n k (filtersOf (prototypeFor layout p))) (now (samples .entry)) (now (samples .exit)) ⌝ }
+{
+    let from = plan::span(layout, p);
+    let to = plan::span(layout, p + 1);
+    let prototype = plan::prototype_for(layout, p);
+    silence(samples, from, to, slots);
+    modulate(layout, p, prototype, band, slots, samples);
+}
+
+// QMF band p, on its part of the history.
+fn split_band(
+    layout: Layout,
+    p: usize,
+    history: &mut [f64],
+    input: &[f64],
+    slots: usize,
+    samples: &mut [f64],
+)
+    requires { ⌜ (p < splitOf layout) × ((slots ≤ 32) × (length (now history) ≡ 12)) ⌝ }
+    requires { ⌜ (128 * (slots + 6) ≤ length (now input)) × (length (now samples) ≡ 5824) ⌝ }
+    ensures history { λ _. ⌜ now (history .exit) ≡ planar 6 (λ j. bandAt (now (history .entry)) (now (input .entry)) p (slots + j)) ⌝ }
+    ensures samples { λ _. ⌜ Written slots (spanOf layout p) (spanOf layout (suc p))
+        (λ k n. joinedTo layout p (bandAt (now (history .entry)) (now (input .entry)) p) n k (filtersOf (prototypeFor layout p)))
+        (now (samples .entry)) (now (samples .exit)) ⌝ }
+{
+    let mut gathered = [0.0; 88];
+    band::gather(history, input, p, slots, &mut gathered);
+    filter_band(layout, p, &gathered, slots, samples);
+    band::keep(&gathered, slots, history);
+}
+
+// The split QMF bands.
+fn split_bands(
+    layout: Layout,
+    history: &mut [f64],
+    input: &[f64],
+    slots: usize,
+    samples: &mut [f64],
+)
+    requires { ⌜ (slots ≤ 32) × (length (now history) ≡ 60) ⌝ }
+    requires { ⌜ (128 * (slots + 6) ≤ length (now input)) × (length (now samples) ≡ 5824) ⌝ }
+    ensures history { λ _. ⌜ Kept (splitOf layout) (λ p. planar 6 (λ j. bandAt (part (12 * p) 12 (now (history .entry))) (now (input .entry)) p (slots + j)))
+        (now (history .entry)) (now (history .exit)) ⌝ }
+    ensures samples { λ _. ⌜ Written slots 0 (unsplitFromOf layout)
+        (λ k n. hybrid layout (slotAt layout (now (history .entry)) (now (input .entry))) n k) (now (samples .entry)) (now (samples .exit)) ⌝ }
+{
+    let split = layout.split();
+    for p in 0..split {
+        let at = 12 * p;
+        split_band(layout, p, &mut history[at..at + 12], input, slots, samples);
+    }
+}
+
+// An unsplit QMF band's slots.
+fn column(input: &[f64], p: usize, slots: usize, run: &mut [f64])
+    requires { ⌜ (p < 64) × ((length (now run) ≡ 64) × (slots ≤ 32)) ⌝ }
+    requires { ⌜ 128 * slots ≤ length (now input) ⌝ }
+    ensures { λ _. ⌜ now (run .exit) ≡ planar 32 (overwritten slots (λ n. cell 1 (now (input .entry)) (128 * n + 2 * p)) (cell 32 (now (run .entry)))) ⌝ }
+{
+    for n in 0..slots {
+        let at = 128 * n + 2 * p;
+        run[n] = input[at];
+        run[n + 32] = input[at + 1];
+    }
+}
+
+// The channels from `first` to `end`: QMF bands from `split` on, unchanged.
+fn columns(input: &[f64], split: usize, first: usize, end: usize, slots: usize, samples: &mut [f64])
+    requires { ⌜ (split ≤ 5) × ((first ≤ end) × ((end ≤ 91) × (end + split ≤ first + 64))) ⌝ }
+    requires { ⌜ (128 * slots ≤ length (now input)) × ((length (now samples) ≡ 5824) × (slots ≤ 32)) ⌝ }
+    ensures { λ _. ⌜ Written slots first end (λ k n. cell 1 (now (input .entry)) (128 * n + 2 * (k + split - first))) (now (samples .entry)) (now (samples .exit)) ⌝ }
+{
+    for k in first..end {
+        let at = 64 * k;
+        column(input, k + split - first, slots, &mut samples[at..at + 64]);
+    }
+}
+
+// The unsplit QMF bands.
+fn pass_bands(layout: Layout, input: &[f64], slots: usize, samples: &mut [f64])
+    requires { ⌜ (128 * slots ≤ length (now input)) × ((length (now samples) ≡ 5824) × (slots ≤ 32)) ⌝ }
+    ensures { λ _. ⌜ Written slots (unsplitFromOf layout) (channelsOf layout)
+        (λ k n. cell 1 (now (input .entry)) (128 * n + 2 * (k + splitOf layout - unsplitFromOf layout))) (now (samples .entry)) (now (samples .exit)) ⌝ }
+{
+    let split = layout.split();
+    let first = layout.unsplit_from();
+    let end = layout.channels();
+    columns(input, split, first, end, slots, samples);
+}
+
+// A frame of the asked slots. Input that is too short is refused, and nothing changes.
+pub fn analyse(
+    layout: Layout,
+    asked: usize,
+    history: &mut [f64; 60],
+    input: &[f64],
+    samples: &mut [f64; 5824],
+) -> Answer
+    ensures answer { λ r. ⌜ r ≡ answerOf layout (now (history .entry)) (now (input .entry)) (slotsOf asked) ⌝ }
+    ensures history { λ _. ⌜ now (history .exit) ≡ historyAfter layout (now (history .entry)) (now (input .entry)) (slotsOf asked) ⌝ }
+    ensures samples { λ _. ⌜ now (samples .exit) ≡ samplesAfter layout (now (history .entry)) (now (input .entry)) (slotsOf asked) (now (samples .entry)) ⌝ }
+{
+    let slots = borders::slots(asked);
+    if input.len() < 128 * (slots + 6) {
+        return Answer::Buffers;
+    }
+    split_bands(layout, history, input, slots, samples);
+    pass_bands(layout, input, slots, samples);
+    Answer::Done
+}

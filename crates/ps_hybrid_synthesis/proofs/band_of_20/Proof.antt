@@ -1,0 +1,20 @@
+-- `ps_hybrid_synthesis::band_of_20` meets its contract: each return is the case that its tests pick. Assumes nothing.
+use borrow.Author.Needs.{needs}
+use borrow.Author.Tests.{lt-ltb, le-ltb}
+use Rattle.ps_hybrid_synthesis.proofs.band_of_20.Statement.{statement}
+use Rattle.ps_hybrid_synthesis.proofs.band_of_20.Tie as tie
+
+third : tie.Need-returns
+third c =
+    record { column = simp (le-ltb _ 8 (c .if1 .taken)); first = simp (le-ltb _ 8 (c .if1 .taken)); small = search needs }
+
+second : tie.Need-returns-2
+second c =
+    record { column = simp (lt-ltb _ 8 (c .before .if1 .left), le-ltb _ 6 (c .if2 .taken)); first = simp (lt-ltb _ 8 (c .before .if1 .left), le-ltb _ 6 (c .if2 .taken)); small = search needs }
+
+first : tie.Need-returns-3
+first c =
+    record { column = simp (lt-ltb _ 8 (c .before .if1 .left), lt-ltb _ 6 (c .if2 .left)); first = simp (lt-ltb _ 8 (c .before .if1 .left), lt-ltb _ 6 (c .if2 .left)); small = search needs }
+
+pub band-of-20-spec : {M : Type 1} → statement M
+band-of-20-spec = tie.close (tie.spec third second first)

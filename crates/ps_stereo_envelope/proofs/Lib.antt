@@ -1,0 +1,5 @@
+pub mod Literals
+pub mod Matrices
+pub mod Moves
+pub mod Filling
+pub mod Kept

@@ -1,0 +1,37 @@
+-- §8.6.4.6.4: a band's coefficients in each slot of a frame, from those at the borders. The rows: for each border 272 numbers, eight for each of 34
+-- bands; row 0 are the kept coefficients, row e + 1 those of envelope e. Assumes nothing.
+use Prim.Native.Nat.{ℕ, _+_, _*_, _/_, _%_, min}
+use mathlib.Core.Bool.{cond}
+use mathlib.Core.List.{List}
+use lib.Dec.{ltb}
+use lib.Ieee.{Float, nan}
+use lib.ListN.{take, getD}
+use Rattle.lists.specs.Part.{part}
+use Rattle.lists.specs.Rows.{tabulate}
+use Rattle.planar.specs.Cells.{overwritten}
+use Rattle.planar.specs.Frame.{matrixAt, matrixRuns, keptMatrix}
+use Rattle.standard.specs.declared.Matrix.{Matrix}
+use Rattle.standard.specs.Interpolation.{fraction, matrixBy}
+
+-- the borders of a frame, at most four
+abbrev pub bordersOf : List ℕ → ℕ → List ℕ
+bordersOf borders count = take (min count 4) borders
+
+-- t of envelope e and slot n stands at 32 e + n; the places of envelopes that the frame lacks stay
+unfoldable pub fractionsAfter : List ℕ → ℕ → List Float → List Float
+fractionsAfter borders count out =
+    tabulate (λ i. cond (ltb (i / 32) (min count 4)) (fraction (bordersOf borders count) (i / 32) (i % 32)) (getD out i nan)) 128
+
+abbrev pub fractionAt : List Float → ℕ → ℕ → Float
+fractionAt fractions e n = getD fractions (32 * e + n) nan
+
+-- a band's coefficients at the border before envelope e
+abbrev pub borderMatrix : List Float → ℕ → ℕ → Matrix
+borderMatrix rows band e = keptMatrix (part (272 * e + 8 * band) 8 rows)
+
+-- a band's coefficients slot by slot, four runs of 32, of which the frame's slots are written
+unfoldable pub runsAfter : List Float → List Float → List ℕ → ℕ → ℕ → ℕ → List Float → List Float
+runsAfter rows fractions borders count band slots out =
+    cond (ltb band 34)
+    (matrixRuns (overwritten slots (λ n. matrixBy (bordersOf borders count) (fractionAt fractions) (borderMatrix rows band) n) (matrixAt out)))
+    out
