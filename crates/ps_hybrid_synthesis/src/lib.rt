@@ -3,7 +3,8 @@ use layout::Layout;
 use layout::ThirtyFour;
 use layout::Twenty;
 ghost use mathlib.Core.Path.{_≡_};
-ghost use Prim.Native.Nat.{_+_, _-_, _<_, _≤_, min};
+ghost use Prim.Native.Nat.{_+_, _-_, _*_, _<_, _≤_, min};
+ghost use lib.ListN.{length};
 ghost use Rattle.layout.specs.Numbers.{channelsOf, splitOf, unsplitFromOf};
 ghost use Rattle.ps_hybrid_synthesis.specs.Column.{written, passed, started, added, column, cellAfter, rowsAfter};
 ghost use Rattle.ps_hybrid_synthesis.specs.Loops.{Room, InBand};
@@ -135,7 +136,7 @@ fn add(run: &[f64; 64], column: usize, slots: usize, rows: &mut [f64])
 
 // A channel of the layout into rows that have room for the slots.
 fn place(layout: Layout, k: usize, run: &[f64; 64], slots: usize, rows: &mut [f64])
-    requires { ⌜ (k < channelsOf layout) × Room 0 slots (now rows) ⌝ }
+    requires { ⌜ (k < channelsOf layout) × ((slots ≤ 32) × (128 * slots ≤ length (now rows))) ⌝ }
     ensures { λ _. ⌜ now (rows .exit) ≡ written (cellAfter layout k (now (run .entry)) (now (rows .entry))) (column layout k) (now (rows .entry)) slots ⌝ }
 {
     let unsplit = layout.unsplit_from();

@@ -1,5 +1,5 @@
 -- Phase indices that move band by band: what a turn reads no turn before it wrote. Assumes nothing.
-use mathlib.Core.Path.{_≡_, refl, sym, ap, _∙_}
+use mathlib.Core.Path.{_≡_, refl, sym, _∙_}
 use mathlib.Core.Logic.{_≢_}
 use mathlib.Core.Bool.{Bool, true, false, cond}
 use mathlib.Core.List.{List}
@@ -51,7 +51,8 @@ module _ {at n : ℕ} {current old new : List ℤ} (r : Moved at n current old n
       other : (i : ℕ) → i ≢ at + n → i ≢ at + 34 + n → getD (set (set new (at + n) v) (at + 34 + n) w) i (pos 0) ≡ getD new i (pos 0)
       other i u q = getD-set-other (set new (at + n) v) (at + 34 + n) i w (pos 0) q ∙ getD-set-other new (at + n) i v (pos 0) u
 
-      as-oldest : (b : ℕ) → b < 34 → (t : Bool) → eqb b n ≡ t → getD (set (set new (at + n) v) (at + 34 + n) w) (at + b) (pos 0) ≡ cond (ltb b (n + 1)) (getD old (at + 34 + b) (pos 0)) (getD old (at + b) (pos 0))
+      as-oldest : (b : ℕ) → b < 34 → (t : Bool) → eqb b n ≡ t
+          → getD (set (set new (at + n) v) (at + 34 + n) w) (at + b) (pos 0) ≡ cond (ltb b (n + 1)) (getD old (at + 34 + b) (pos 0)) (getD old (at + b) (pos 0))
       as-oldest b h true e =
           let here : b ≡ n = eqb-true b n e in
           rw (here, lt-ltb n (n + 1) (omega arith))
@@ -63,7 +64,8 @@ module _ {at n : ℕ} {current old new : List ℤ} (r : Moved at n current old n
           let u : b ≢ n = eqb-false b n e in
           other (at + b) (λ (z : at + b ≡ at + n). u (omega arith)) (λ (z : at + b ≡ at + 34 + n). omega arith) ∙ r .oldest b h ∙ rw (same-test b n u)
 
-      as-previous : (b : ℕ) → b < 34 → (t : Bool) → eqb b n ≡ t → getD (set (set new (at + n) v) (at + 34 + n) w) (at + 34 + b) (pos 0) ≡ cond (ltb b (n + 1)) (getD current b (pos 0)) (getD old (at + 34 + b) (pos 0))
+      as-previous : (b : ℕ) → b < 34 → (t : Bool) → eqb b n ≡ t
+          → getD (set (set new (at + n) v) (at + 34 + n) w) (at + 34 + b) (pos 0) ≡ cond (ltb b (n + 1)) (getD current b (pos 0)) (getD old (at + 34 + b) (pos 0))
       as-previous b h true e =
           let here : b ≡ n = eqb-true b n e in
           rw (here, lt-ltb n (n + 1) (omega arith)) (getD-set-same (set new (at + n) v) (at + 34 + n) w (pos 0) (simp length-set (omega arith)) ∙ ew)

@@ -1,7 +1,7 @@
 -- §8.6.4.6.2 and §8.6.4.6.3: the coefficients of every band at an envelope's border. The phase indices kept of 34 bands: the oldest and the previous
 -- of IPD, then those of OPD. The rows: for each border 272 numbers, eight for each of 34 bands; row e + 1 are those of envelope e. Assumes nothing.
 use Prim.Native.Nat.{ℕ, _+_, _*_}
-use mathlib.Core.Bool.{Bool, cond}
+use mathlib.Core.Bool.{cond}
 use mathlib.Core.List.{List, _++_}
 use lib.Dec.{ltb}
 use lib.IntN.{ℤ, pos}
@@ -12,7 +12,6 @@ use Rattle.layout.specs.Numbers.{bandsOf}
 use Rattle.lists.specs.Part.{part, put}
 use Rattle.lists.specs.Rows.{rows, tabulate}
 use Rattle.planar.specs.Frame.{numbersOf}
-use Rattle.standard.specs.declared.Matrix.{Matrix}
 use Rattle.standard.specs.declared.Modes.{Modes}
 use Rattle.standard.specs.Mixing.{noMatrix, Cue, Phases, Kept, matrixFrom, phasesAfter}
 use Rattle.ps_stereo_envelope.specs.declared.Cues.{Cues}

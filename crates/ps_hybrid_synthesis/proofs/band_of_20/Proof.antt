@@ -6,15 +6,20 @@ use Rattle.ps_hybrid_synthesis.proofs.band_of_20.Tie as tie
 
 third : tie.Need-returns
 third c =
-    record { column = simp (le-ltb _ 8 (c .if1 .taken)); first = simp (le-ltb _ 8 (c .if1 .taken)); small = search needs }
+    let test-8 = le-ltb _ 8 (c .if1 .taken) in
+    record { column = simp test-8; first = simp test-8; small = search needs }
 
 second : tie.Need-returns-2
 second c =
-    record { column = simp (lt-ltb _ 8 (c .before .if1 .left), le-ltb _ 6 (c .if2 .taken)); first = simp (lt-ltb _ 8 (c .before .if1 .left), le-ltb _ 6 (c .if2 .taken)); small = search needs }
+    let test-8 = lt-ltb _ 8 (c .before .if1 .left) in
+    let test-6 = le-ltb _ 6 (c .if2 .taken) in
+    record { column = simp (test-8, test-6); first = simp (test-8, test-6); small = search needs }
 
 first : tie.Need-returns-3
 first c =
-    record { column = simp (lt-ltb _ 8 (c .before .if1 .left), lt-ltb _ 6 (c .if2 .left)); first = simp (lt-ltb _ 8 (c .before .if1 .left), lt-ltb _ 6 (c .if2 .left)); small = search needs }
+    let test-8 = lt-ltb _ 8 (c .before .if1 .left) in
+    let test-6 = lt-ltb _ 6 (c .if2 .left) in
+    record { column = simp (test-8, test-6); first = simp (test-8, test-6); small = search needs }
 
 pub band-of-20-spec : {M : Type 1} → statement M
 band-of-20-spec = tie.close (tie.spec third second first)

@@ -1,6 +1,6 @@
 -- `ps_hybrid_synthesis::synthesise` meets its contract: a channel or rows that are not there change nothing, and the others are placed. Assumes nothing.
-use mathlib.Core.Path.{_≡_, ap, _∙_}
-use Prim.Native.Nat.{ℕ, _<_, min}
+use mathlib.Core.Path.{ap, _∙_}
+use Prim.Native.Nat.{_<_, min}
 use native.Mathlib.Omega.{arith}
 use borrow.Author.Needs.{needs}
 use Rattle.layout.specs.Numbers.{channelsOf}

@@ -15,7 +15,8 @@ use Rattle.ps_stereo_envelope.proofs.matrix.Statement.{statement}
 use Rattle.ps_stereo_envelope.proofs.matrix.Tie as tie
 
 -- the two directions are those of the indices themselves
-opd-direction : (c : tie.After-direction) → let a = c .before .before .before .before .before .before .args in c .direction .result ≡ directionOf (a .directions .now) (opdOf (a .phases .now) (a .b)) (a .indices .opd)
+opd-direction : (c : tie.After-direction) → let a = c .before .before .before .before .before .before .args in
+    c .direction .result ≡ directionOf (a .directions .now) (opdOf (a .phases .now) (a .b)) (a .indices .opd)
 opd-direction c =
     let told = c .before in
     let a = told .before .before .before .before .before .args in
@@ -26,7 +27,8 @@ opd-direction c =
       back w8 (a .indices .opd) (told .struct-told .given .1 .1 .1 .0 .1),
     )
 
-ipd-direction : (c : tie.After-direction2) → let a = c .before .before .before .before .before .before .before .before .before .before .args in c .direction2 .result ≡ directionOf (a .directions .now) (ipdOf (a .phases .now) (a .b)) (a .indices .ipd)
+ipd-direction : (c : tie.After-direction2) → let a = c .before .before .before .before .before .before .before .before .before .before .args in
+    c .direction2 .result ≡ directionOf (a .directions .now) (ipdOf (a .phases .now) (a .b)) (a .indices .ipd)
 ipd-direction c =
     let told = c .before in
     let a = told .before .before .before .before .before .before .before .before .before .args in

@@ -20,10 +20,9 @@ eighth c = simp length-set (omega arith)
 
 returns : tie.Need-returns
 returns c =
-    let one = front-pair (front-none (c .args .out .now)) _ _ (omega arith) in
-    let two = front-pair one _ _ (omega arith) in
-    let three = front-pair two _ _ (omega arith) in
-    front-all (front-pair three _ _ (omega arith)) (omega arith)
+    front-all
+    (front-pair (front-pair (front-pair (front-pair (front-none (c .args .out .now)) _ _ (omega arith)) _ _ (omega arith)) _ _ (omega arith)) _ _ (omega arith))
+    (omega arith)
 
 pub store-spec : {M : Type 1} → statement M
 store-spec =
