@@ -1,10 +1,14 @@
--- A frame in flat lists: the hybrid samples, for each of 91 channels a run of 32 slots; and a band's coefficients, four runs of 32 slots.
+-- A frame in flat lists: the hybrid samples, for each of 91 channels a run of 32 slots; a band's coefficients, four runs of 32 slots; and QMF slots,
+-- rows of 64 complex numbers side by side.
 -- Assumes nothing.
-use Prim.Native.Nat.{ℕ, _*_}
+use Prim.Native.Nat.{ℕ, _+_, _*_, _/_, _%_}
+use mathlib.Core.Bool.{cond}
 use mathlib.Core.List.{List, [], _∷_, _++_}
+use lib.Dec.{eqb}
 use lib.Ieee.{Float}
 use Rattle.complex.specs.declared.Complex.{Complex}
 use Rattle.lists.specs.Part.{part}
+use Rattle.lists.specs.Rows.{tabulate}
 use Rattle.standard.specs.declared.Matrix.{Matrix}
 use Rattle.planar.specs.Cells.{cell, planar}
 
@@ -25,3 +29,10 @@ keptMatrix numbers = record { h11 = cell 1 numbers 0; h12 = cell 1 numbers 2; h2
 
 abbrev pub numbersOf : Matrix → List Float
 numbersOf h = h .h11 .re ∷ h .h11 .im ∷ h .h12 .re ∷ h .h12 .im ∷ h .h21 .re ∷ h .h21 .im ∷ h .h22 .re ∷ h .h22 .im ∷ []
+
+-- QMF band q in slot n, and the list of all of them
+abbrev pub qmfAt : List Float → ℕ → ℕ → Complex
+qmfAt qmf n q = cell 1 qmf (128 * n + 2 * q)
+
+abbrev pub qmfRows : ℕ → (ℕ → ℕ → Complex) → List Float
+qmfRows slots y = tabulate (λ i. cond (eqb (i % 2) 0) (y (i / 128) (i % 128 / 2) .re) (y (i / 128) (i % 128 / 2) .im)) (128 * slots)

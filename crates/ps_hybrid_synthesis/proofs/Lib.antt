@@ -1,3 +1,5 @@
 pub mod Literals
 pub mod Columns
 pub mod Ways
+pub mod Spans
+pub mod Rising

@@ -1,2 +1,3 @@
 pub mod Column
 pub mod Loops
+pub mod Rising

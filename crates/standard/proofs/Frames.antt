@@ -35,7 +35,7 @@ pub record Agree (l : Layout) (b : ℕ) (s t : Core) : Type 0 where
 
 -- ---- a channel, a band's power and its detector
 
-channel-same : (chain : Chain) (c : Channel) (x y : ℕ → Complex) (n : ℕ) → ((m : ℕ) → m < n → x m ≡ y m) → channelAt chain c x n ≡ channelAt chain c y n
+pub channel-same : (chain : Chain) (c : Channel) (x y : ℕ → Complex) (n : ℕ) → ((m : ℕ) → m < n → x m ≡ y m) → channelAt chain c x n ≡ channelAt chain c y n
 unfolding channelAt
 channel-same chain c x y zero h = refl
 channel-same chain c x y (suc n) h =
@@ -43,7 +43,7 @@ channel-same chain c x y (suc n) h =
     let q : x n ≡ y n = h n (le-refl (suc n)) in
     cc
 
-power-same : (l : Layout) (b : ℕ) (x y : ℕ → Complex) (j : ℕ) → ((k : ℕ) → k < j → bandOf l k ≡ b → x k ≡ y k) → powerTo l x b j ≡ powerTo l y b j
+pub power-same : (l : Layout) (b : ℕ) (x y : ℕ → Complex) (j : ℕ) → ((k : ℕ) → k < j → bandOf l k ≡ b → x k ≡ y k) → powerTo l x b j ≡ powerTo l y b j
 unfolding powerTo
 power-same l b x y zero h = refl
 power-same l b x y (suc j) h =
@@ -54,7 +54,7 @@ power-same l b x y (suc j) h =
     go true e p = let q : x j ≡ y j = e tt in rw (p, q)
     go false e p = p
 
-detector-same : (d : Detector) (p q : ℕ → Float) (n : ℕ) → ((m : ℕ) → m < n → p m ≡ q m) → detectorAt d p n ≡ detectorAt d q n
+pub detector-same : (d : Detector) (p q : ℕ → Float) (n : ℕ) → ((m : ℕ) → m < n → p m ≡ q m) → detectorAt d p n ≡ detectorAt d q n
 unfolding detectorAt
 detector-same d p q zero h = refl
 detector-same d p q (suc n) h =
@@ -64,7 +64,7 @@ detector-same d p q (suc n) h =
 
 -- ---- a band's coefficients
 
-kept-same : (modes : Modes) (c d : ℕ → Cue) (m : Kept) (j : ℕ) → ((e : ℕ) → e < j → c e ≡ d e) → keptAt modes c m j ≡ keptAt modes d m j
+pub kept-same : (modes : Modes) (c d : ℕ → Cue) (m : Kept) (j : ℕ) → ((e : ℕ) → e < j → c e ≡ d e) → keptAt modes c m j ≡ keptAt modes d m j
 unfolding keptAt
 kept-same modes c d m zero h = refl
 kept-same modes c d m (suc j) h =
@@ -72,7 +72,7 @@ kept-same modes c d m (suc j) h =
     let q : c j ≡ d j = h j (le-refl (suc j)) in
     cc
 
-filled-same : (borders : List ℕ) (t : ℕ → ℕ → Float) (g h : ℕ → Matrix) (n j : ℕ) → ((e : ℕ) → e ≤ j → g e ≡ h e) → filledBy borders t g n j ≡ filledBy borders t h n j
+pub filled-same : (borders : List ℕ) (t : ℕ → ℕ → Float) (g h : ℕ → Matrix) (n j : ℕ) → ((e : ℕ) → e ≤ j → g e ≡ h e) → filledBy borders t g n j ≡ filledBy borders t h n j
 unfolding filledBy
 filled-same borders t g h n zero same = refl
 filled-same borders t g h n (suc j) same =
@@ -81,7 +81,7 @@ filled-same borders t g h n (suc j) same =
     let r : filledBy borders t g n j ≡ filledBy borders t h n j = filled-same borders t g h n j (λ e u. same e (omega arith)) in
     rw (p, q, r)
 
-matrix-same : (borders : List ℕ) (t : ℕ → ℕ → Float) (g h : ℕ → Matrix) (n : ℕ) → ((e : ℕ) → e ≤ length borders → g e ≡ h e) → matrixBy borders t g n ≡ matrixBy borders t h n
+pub matrix-same : (borders : List ℕ) (t : ℕ → ℕ → Float) (g h : ℕ → Matrix) (n : ℕ) → ((e : ℕ) → e ≤ length borders → g e ≡ h e) → matrixBy borders t g n ≡ matrixBy borders t h n
 unfolding matrixBy
 matrix-same borders t g h n same =
     let p : g (length borders) ≡ h (length borders) = same (length borders) (le-refl (length borders)) in

@@ -1,0 +1,10 @@
+pub mod Channels
+pub mod Relation
+pub mod Cores
+pub mod Remaps
+pub mod Ready
+pub mod Frames
+pub mod Rows
+pub mod Calls
+pub mod Outcomes
+pub mod Isolation

@@ -1,0 +1,5 @@
+pub mod Cues
+pub mod Call
+pub mod Run
+pub mod Near
+pub mod Isolation

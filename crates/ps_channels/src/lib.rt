@@ -1,0 +1,236 @@
+// All channels of a frame (source documents 000 to 002): each is de-correlated, mixed, and added to its QMF band's column of left and right.
+mod turn;
+
+use layout::Layout;
+ghost use mathlib.Core.Path.{_≡_};
+ghost use Prim.Native.Nat.{_*_, _≤_, min};
+ghost use lib.ListN.{length};
+ghost use Rattle.ps_map.specs.Bands.{parameterMap};
+ghost use Rattle.standard.specs.Channel.{rotationsOf};
+ghost use Rattle.ps_channels.specs.Channels.{leftAfter, rightAfter, delaysAfter, longAfter, shortAfter};
+ghost use Rattle.ps_channels.specs.Turns.{Fractions, Done, Sized};
+
+fn least(a: usize, b: usize) -> usize
+    ensures { λ r. ⌜ r ≡ min a b ⌝ }
+{
+    if a < b { a } else { b }
+}
+
+// The channels in rising order. The lists that a channel fills and leaves are lent, so that none is built inside the loop.
+fn each(
+    layout: Layout,
+    map: &[u8; 91],
+    table: &[i64],
+    borders: [u8; 4],
+    count: usize,
+    fractions: &[f64; 128],
+    samples: &[f64; 5824],
+    gains: &[f64; 1088],
+    rows: &[f64; 1360],
+    delays: &mut [f64; 1400],
+    long: &mut [f64; 336],
+    short: &mut [f64; 58],
+    slots: usize,
+    runs: &mut [f64; 256],
+    decorrelated: &mut [f64; 64],
+    lefts: &mut [f64; 64],
+    rights: &mut [f64; 64],
+    left: &mut [f64],
+    right: &mut [f64],
+)
+    requires { ⌜ (now map ≡ parameterMap layout) × (now table ≡ rotationsOf layout) ⌝ }
+    requires { ⌜ Fractions borders count (now fractions) ⌝ }
+    requires { ⌜ (slots ≤ 32) × ((length (now left) ≡ 128 * slots) × (length (now right) ≡ 128 * slots)) ⌝ }
+    ensures { λ _. ⌜ Done layout borders count (now (samples .entry)) (now (gains .entry)) (now (rows .entry))
+        (now (delays .entry)) (now (long .entry)) (now (short .entry)) slots
+        (now (delays .exit)) (now (long .exit)) (now (short .exit)) (now (left .exit)) (now (right .exit)) ⌝ }
+{
+    let channels = layout.channels();
+    let mut held = 34;
+    for k in 0..channels {
+        let band = turn::band_at(map, k);
+        turn::coefficients(rows, fractions, borders, count, band, held, slots, runs);
+        held = band;
+        turn::channel(
+            layout,
+            k,
+            table,
+            delays,
+            long,
+            short,
+            samples,
+            gains,
+            band,
+            runs,
+            slots,
+            decorrelated,
+            lefts,
+            rights,
+            left,
+            right,
+        );
+    }
+}
+
+// What every channel takes is made once: the map, the fractions, and room for one channel.
+fn frame(
+    layout: Layout,
+    table: &[i64],
+    borders: [u8; 4],
+    count: usize,
+    samples: &[f64; 5824],
+    gains: &[f64; 1088],
+    rows: &[f64; 1360],
+    delays: &mut [f64; 1400],
+    long: &mut [f64; 336],
+    short: &mut [f64; 58],
+    slots: usize,
+    left: &mut [f64],
+    right: &mut [f64],
+)
+    requires { ⌜ now table ≡ rotationsOf layout ⌝ }
+    requires { ⌜ (slots ≤ 32) × ((length (now left) ≡ 128 * slots) × (length (now right) ≡ 128 * slots)) ⌝ }
+    ensures { λ _. ⌜ Done layout borders count (now (samples .entry)) (now (gains .entry)) (now (rows .entry))
+        (now (delays .entry)) (now (long .entry)) (now (short .entry)) slots
+        (now (delays .exit)) (now (long .exit)) (now (short .exit)) (now (left .exit)) (now (right .exit)) ⌝ }
+{
+    let map = ps_map::parameter_map(layout);
+    let mut fractions = [0.0f64; 128];
+    let mut runs = [0.0f64; 256];
+    let mut decorrelated = [0.0f64; 64];
+    let mut lefts = [0.0f64; 64];
+    let mut rights = [0.0f64; 64];
+    ps_stereo_slots::fractions(borders, count, &mut fractions);
+    each(
+        layout,
+        &map,
+        table,
+        borders,
+        count,
+        &fractions,
+        samples,
+        gains,
+        rows,
+        delays,
+        long,
+        short,
+        slots,
+        &mut runs,
+        &mut decorrelated,
+        &mut lefts,
+        &mut rights,
+        left,
+        right,
+    );
+}
+
+// With the layout's table of rotations.
+fn rotated(
+    layout: Layout,
+    borders: [u8; 4],
+    count: usize,
+    samples: &[f64; 5824],
+    gains: &[f64; 1088],
+    rows: &[f64; 1360],
+    delays: &mut [f64; 1400],
+    long: &mut [f64; 336],
+    short: &mut [f64; 58],
+    slots: usize,
+    left: &mut [f64],
+    right: &mut [f64],
+)
+    requires { ⌜ (slots ≤ 32) × ((length (now left) ≡ 128 * slots) × (length (now right) ≡ 128 * slots)) ⌝ }
+    ensures { λ _. ⌜ Done layout borders count (now (samples .entry)) (now (gains .entry)) (now (rows .entry))
+        (now (delays .entry)) (now (long .entry)) (now (short .entry)) slots
+        (now (delays .exit)) (now (long .exit)) (now (short .exit)) (now (left .exit)) (now (right .exit)) ⌝ }
+{
+    match layout {
+        Layout::Bands20 => {
+            let table = rotation_table::rotations_20();
+            frame(
+                layout,
+                &table,
+                borders,
+                count,
+                samples,
+                gains,
+                rows,
+                delays,
+                long,
+                short,
+                slots,
+                left,
+                right,
+            );
+        }
+        Layout::Bands34 => {
+            let table = rotation_table::rotations_34();
+            frame(
+                layout,
+                &table,
+                borders,
+                count,
+                samples,
+                gains,
+                rows,
+                delays,
+                long,
+                short,
+                slots,
+                left,
+                right,
+            );
+        }
+    }
+}
+
+// An array that is lent as a slice tells its length, which no proof knows otherwise.
+fn sized(delays: &[f64], long: &[f64], short: &[f64])
+    requires { ⌜ Sized (now delays) (now long) (now short) ⌝ }
+    ensures { λ _. ⌜ Sized (now (delays .entry)) (now (long .entry)) (now (short .entry)) ⌝ }
+{}
+
+// What a frame's channels have in common is lent: samples, ducking factors, the coefficients at the borders, and the memory of every delay.
+pub fn channels(
+    layout: Layout,
+    borders: [u8; 4],
+    count: usize,
+    samples: &[f64; 5824],
+    gains: &[f64; 1088],
+    rows: &[f64; 1360],
+    delays: &mut [f64; 1400],
+    long: &mut [f64; 336],
+    short: &mut [f64; 58],
+    slots: usize,
+    left: &mut [f64],
+    right: &mut [f64],
+)
+    ensures left { λ _. ⌜ now (left .exit) ≡ leftAfter layout borders count (now (samples .entry)) (now (gains .entry)) (now (rows .entry)) (now (delays .entry)) (now (long .entry)) (now (short .entry)) slots (now (left .entry)) (now (right .entry)) ⌝ }
+    ensures right { λ _. ⌜ now (right .exit) ≡ rightAfter layout borders count (now (samples .entry)) (now (gains .entry)) (now (rows .entry)) (now (delays .entry)) (now (long .entry)) (now (short .entry)) slots (now (left .entry)) (now (right .entry)) ⌝ }
+    ensures delays { λ _. ⌜ now (delays .exit) ≡ delaysAfter layout borders count (now (samples .entry)) (now (gains .entry)) (now (rows .entry)) (now (delays .entry)) (now (long .entry)) (now (short .entry)) slots (now (left .entry)) (now (right .entry)) ⌝ }
+    ensures long { λ _. ⌜ now (long .exit) ≡ longAfter layout borders count (now (samples .entry)) (now (gains .entry)) (now (rows .entry)) (now (delays .entry)) (now (long .entry)) (now (short .entry)) slots (now (left .entry)) (now (right .entry)) ⌝ }
+    ensures short { λ _. ⌜ now (short .exit) ≡ shortAfter layout borders count (now (samples .entry)) (now (gains .entry)) (now (rows .entry)) (now (delays .entry)) (now (long .entry)) (now (short .entry)) slots (now (left .entry)) (now (right .entry)) ⌝ }
+{
+    let within = least(slots, 32);
+    if left.len() != 128 * within {
+        return;
+    }
+    if right.len() != 128 * within {
+        return;
+    }
+    sized(delays, long, short);
+    rotated(
+        layout,
+        borders,
+        count,
+        samples,
+        gains,
+        rows,
+        delays,
+        long,
+        short,
+        within,
+        left,
+        right,
+    );
+}

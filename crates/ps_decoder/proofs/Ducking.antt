@@ -1,0 +1,75 @@
+-- From samples that agree, the powers, the detectors and the ducking factors of a frame agree with those of the definitions. Assumes nothing.
+use mathlib.Core.Path.{_≡_, refl, ap, ap₂, _∙_}
+use mathlib.Core.Bool.{Bool, true, false, cond, _&&_}
+use mathlib.Core.List.{List, _++_}
+use Prim.Native.Nat.{ℕ, suc, _+_, _*_, _/_, _%_, _<_, _≤_}
+use native.Mathlib.Omega.{arith}
+use borrow.Author.Tests.{lt-ltb, ltb-true}
+use lib.Dec.{ltb}
+use lib.Ieee.{Float, nan}
+use lib.ListN.{getD}
+use Rattle.complex.specs.declared.Complex.{Complex}
+use Rattle.layout.specs.declared.Layout.{Layout}
+use Rattle.layout.specs.declared.Layout.the-variants.{Bands20, Bands34}
+use Rattle.layout.specs.Numbers.{bandsOf, channelsOf}
+use Rattle.lists.specs.Rows.{tabulate}
+use Rattle.lists.proofs.Maps.{tabulate-at, tabulate-same}
+use Rattle.planar.specs.Cells.{overwritten}
+use Rattle.planar.specs.Frame.{sampleAt}
+use Rattle.ps_decorr.specs.Channels.{detectorsWith}
+use Rattle.ps_decorr_transient.specs.Gains.{detectorOf, powerAt, detectorThen, detectorsAfter, gainsAfter}
+use Rattle.standard.specs.Detector.{Detector, powerTo, detectorAt, ducking}
+use Rattle.standard.proofs.Frames.{power-same, detector-same}
+
+pub bands-few : (l : Layout) → bandsOf l ≤ 34
+bands-few Bands20 = omega arith
+bands-few Bands34 = omega arith
+
+-- the detectors of the bands that a layout lacks are not read
+pub detectors-same : (l : Layout) (f g : ℕ → Detector) (old : List Float) → ((b : ℕ) → b < bandsOf l → f b ≡ g b) → detectorsWith l f old ≡ detectorsWith l g old
+unfolding detectorsWith
+detectors-same l f g old same =
+    ap₂ (λ (p q : List Float). p ++ q) (numbers (λ (d : Detector). d .peak))
+    (ap₂ (λ (p q : List Float). p ++ q) (numbers (λ (d : Detector). d .smooth)) (numbers (λ (d : Detector). d .difference)))
+  where
+    one : (b : ℕ) (t : Bool) → ltb b (bandsOf l) ≡ t → cond t (f b) (detectorOf old b) ≡ cond t (g b) (detectorOf old b)
+    one b true e = same b (ltb-true b (bandsOf l) e)
+    one b false e = refl
+
+    numbers : (number : Detector → Float)
+        → tabulate (λ b. number (overwritten (bandsOf l) f (detectorOf old) b)) 34 ≡ tabulate (λ b. number (overwritten (bandsOf l) g (detectorOf old) b)) 34
+    numbers number =
+        tabulate-same (λ b. number (overwritten (bandsOf l) f (detectorOf old) b)) (λ b. number (overwritten (bandsOf l) g (detectorOf old) b)) 34
+        (λ b u. ap number (one b (ltb b (bandsOf l)) refl))
+
+module _ (l : Layout) (memory samples : List Float) (slots : ℕ) (sample : ℕ → ℕ → Complex)
+    (same : (n k : ℕ) → n < slots → k < channelsOf l → sampleAt samples n k ≡ sample n k) where
+  -- band b's detector after n slots of the samples
+  abbrev pub detectorBy : ℕ → ℕ → Detector
+  detectorBy b n = detectorAt (detectorOf memory b) (λ m. powerTo l (sample m) b (channelsOf l)) n
+
+  detector-then : (b n : ℕ) → n ≤ slots → detectorThen l memory samples b n ≡ detectorBy b n
+  unfolding detectorThen powerAt
+  detector-then b n h =
+      detector-same (detectorOf memory b) (powerAt l samples b) (λ m. powerTo l (sample m) b (channelsOf l)) n
+      (λ m u. power-same l b (sampleAt samples m) (sample m) (channelsOf l) (λ k w e. same m k (omega arith) w))
+
+  pub detectors-then : detectorsAfter l memory samples slots ≡ detectorsWith l (λ b. detectorBy b slots) memory
+  unfolding detectorsAfter detectorsWith
+  detectors-then =
+      detectors-same l (λ b. detectorThen l memory samples b slots) (λ b. detectorBy b slots) memory (λ b u. detector-then b slots (omega arith))
+
+  pub gain-same : (gains : List Float) → slots ≤ 32 → (b n : ℕ) → b < bandsOf l → n < slots
+      → getD (gainsAfter l memory samples slots gains) (32 * b + n) nan ≡ ducking (detectorBy b (suc n))
+  unfolding gainsAfter
+  gain-same gains few b n h u =
+      tabulate-at
+      (λ i. cond (ltb (i / 32) (bandsOf l) && ltb (i % 32) slots) (ducking (detectorThen l memory samples (i / 32) (suc (i % 32)))) (getD gains i nan)) 1088 (32 * b + n) nan
+      (omega (arith, bands-few l))
+      ∙ picked ((32 * b + n) / 32) ((32 * b + n) % 32) (omega arith) (omega arith)
+      ∙ ap ducking (detector-then b (suc n) u)
+    where
+      picked : (c m : ℕ) → c ≡ b → m ≡ n
+          → cond (ltb c (bandsOf l) && ltb m slots) (ducking (detectorThen l memory samples c (suc m))) (getD gains (32 * b + n) nan)
+          ≡ ducking (detectorThen l memory samples b (suc n))
+      picked c m p q = rw (p, q, lt-ltb b (bandsOf l) h, lt-ltb n slots u)

@@ -1,0 +1,13 @@
+pub mod Slots
+pub mod Samples
+pub mod Ducking
+pub mod Coefficients
+pub mod Synthesis
+pub mod Channels
+pub mod Stages
+pub mod Accepted
+pub mod Run
+pub mod Isolation
+pub mod Refusals
+pub mod Outcomes
+pub mod Assembled

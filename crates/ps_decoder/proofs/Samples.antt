@@ -1,0 +1,64 @@
+-- The hybrid samples that the analysis leaves are those of the definitions: each channel's run is a row of the list. Assumes nothing.
+use mathlib.Core.Path.{_≡_, ap, _∙_}
+use mathlib.Core.Bool.{Bool, true, false, cond}
+use mathlib.Core.List.{List}
+use Prim.Native.Nat.{ℕ, _*_, _<_, _≤_}
+use native.Mathlib.Omega.{arith}
+use borrow.Author.Tests.{lt-ltb}
+use lib.Dec.{ltb}
+use lib.Ieee.{Float}
+use lib.ListN.{length}
+use Rattle.complex.specs.declared.Complex.{Complex}
+use Rattle.layout.specs.declared.Layout.{Layout}
+use Rattle.layout.specs.declared.Layout.the-variants.{Bands20, Bands34}
+use Rattle.layout.specs.Numbers.{channelsOf}
+use Rattle.lists.specs.Part.{part}
+use Rattle.lists.specs.Rows.{rows}
+use Rattle.lists.proofs.Parts.{part-length}
+use Rattle.lists.proofs.Rows.{rows-part}
+use Rattle.planar.specs.Cells.{cell, planar, overwritten}
+use Rattle.planar.specs.Frame.{sampleAt}
+use Rattle.planar.proofs.Cells.{planar-at, planar-length}
+use Rattle.ps_hybrid_analysis.specs.Analysis.{slotAt, enough, samplesAfter}
+use Rattle.standard.specs.Hybrid.{hybrid}
+use Rattle.ps_decoder.proofs.Slots.{slotIn, slot-same}
+
+pub channels-few : (l : Layout) → channelsOf l ≤ 91
+channels-few Bands20 = omega arith
+channels-few Bands34 = omega arith
+
+-- equal slots make equal samples
+hybrid-same : (l : Layout) (x y : ℕ → ℕ → Complex) (n k : ℕ) → ((p j : ℕ) → x p j ≡ y p j) → hybrid l x n k ≡ hybrid l y n k
+hybrid-same l x y n k same = ap (λ (z : ℕ → ℕ → Complex). hybrid l z n k) (λ i p j. same p j i)
+
+module _ (l : Layout) (history input samples : List Float) (slots : ℕ) (long : length samples ≡ 5824) where
+  -- the run of channel k
+  abbrev runOf : ℕ → List Float
+  runOf k = planar 32 (overwritten slots (λ n. hybrid l (slotAt l history input) n k) (λ n. sampleAt samples n k))
+
+  abbrev rowOf : ℕ → List Float
+  rowOf k = cond (ltb k (channelsOf l)) (runOf k) (part (64 * k) 64 samples)
+
+  row-length : (k : ℕ) → k < 91 → length (rowOf k) ≡ 64
+  row-length k u = go (ltb k (channelsOf l))
+    where
+      go : (t : Bool) → length (cond t (runOf k) (part (64 * k) 64 samples)) ≡ 64
+      go true = planar-length 32 (overwritten slots (λ n. hybrid l (slotAt l history input) n k) (λ n. sampleAt samples n k))
+      go false = part-length (64 * k) 64 samples (omega arith)
+
+  run-at : (k : ℕ) → k < channelsOf l → part (64 * k) 64 (rows rowOf 91) ≡ runOf k
+  run-at k u =
+      let place : 64 * k ≡ k * 64 = omega arith in
+      ap (λ (a : ℕ). part a 64 (rows rowOf 91)) place
+      ∙ rows-part rowOf 64 91 row-length k (omega (arith, channels-few l))
+      ∙ ap (λ (t : Bool). cond t (runOf k) (part (64 * k) 64 samples)) (lt-ltb k (channelsOf l) u)
+
+  pub sample-same : slots ≤ 32 → enough l history input slots ≡ true → (n k : ℕ) → n < slots → k < channelsOf l
+      → sampleAt (samplesAfter l history input slots samples) n k ≡ hybrid l (slotIn history input) n k
+  unfolding samplesAfter
+  sample-same few room n k h u =
+      ap (λ (t : Bool). sampleAt (cond t (rows rowOf 91) samples) n k) room
+      ∙ ap (λ (run : List Float). cell 32 run n) (run-at k u)
+      ∙ planar-at 32 (overwritten slots (λ m. hybrid l (slotAt l history input) m k) (λ m. sampleAt samples m k)) n (omega arith)
+      ∙ ap (λ (t : Bool). cond t (hybrid l (slotAt l history input) n k) (sampleAt samples n k)) (lt-ltb n slots h)
+      ∙ hybrid-same l (slotAt l history input) (slotIn history input) n k (slot-same history input l)

@@ -1,0 +1,192 @@
+-- An accepted frame by its stages is the frame of the definitions: each stage's flat list holds what they say, so the two outputs have their rows, and the
+-- carried numbers hold their state. Assumes nothing.
+use mathlib.Core.Path.{_≡_, refl, sym, ap, _∙_}
+use mathlib.Core.Bool.{Bool, true, false, not, cond, _&&_}
+use mathlib.Core.List.{List}
+use Prim.Native.Nat.{ℕ, _+_, _*_, _%_, _<_, _≤_, min}
+use native.Mathlib.Omega.{arith}
+use borrow.Author.Tests.{eqb-true}
+use lib.Dec.{eqb, leb}
+use lib.Ieee.{Float, nan}
+use lib.ListN.{length, getD, replicate, length-replicate}
+use Rattle.borders.specs.Borders.{slotsOf, borderOf, bordersOf}
+use Rattle.calls.specs.Call.{Playing, buffersFit, modesOf}
+use Rattle.calls.specs.Cues.{cueAt}
+use Rattle.cue.specs.declared.Header.{Header}
+use Rattle.layout.specs.Numbers.{bandsOf, channelsOf}
+use Rattle.lists.specs.Held.{held}
+use Rattle.lists.proofs.Maps.{tabulate-length}
+use Rattle.planar.specs.Frame.{sampleAt, qmfRows}
+use Rattle.ps_data.specs.declared.PsIndexState.{PsIndexState}
+use Rattle.ps_data.specs.declared.PsIndices.{PsIndices}
+use Rattle.ps_decorr.specs.Channels.{detectorsWith}
+use Rattle.ps_decorr_transient.specs.Gains.{detectorsAfter, gainsAfter}
+use Rattle.ps_state.specs.declared.PsDecoder.{PsDecoder}
+use Rattle.ps_state.specs.State.{coreOf, stored}
+use Rattle.ps_stereo.specs.Kept.{stereoWith}
+use Rattle.ps_stereo_borders.specs.Borders as borders
+use Rattle.ps_stereo_slots.specs.Slots as slotted
+use Rattle.standard.specs.Core.{Frame, Core, powerThen, detectorThen, duck, keptThen, matrixThen, leftAt, rightAt, after}
+use Rattle.standard.specs.Hybrid.{hybrid, synthesised}
+use Rattle.standard.specs.Interpolation.{matrixIn}
+use Rattle.standard.specs.Numbers.{zero}
+use Rattle.ps_decoder.specs.Sound.{samplesOf, gainsOf, rowsOf, leftOf, rightOf, sounded}
+use Rattle.ps_decoder.proofs.Slots.{slotIn, pastAfter, history-same}
+use Rattle.ps_decoder.proofs.Samples.{sample-same}
+use Rattle.ps_decoder.proofs.Ducking.{detectors-then, gain-same}
+use Rattle.ps_decoder.proofs.Coefficients.{matrix-then}
+use Rattle.ps_decoder.proofs.Channels.{Flat, left-after, right-after, delays-after, long-after, short-after}
+
+-- the input has the rows that a frame reads, and each output exactly a frame's
+pub record Fitting (s : PsDecoder) (input left right : List Float) : Type 0 where
+  pub room : leb (128 * (slotsOf (s .asked) + 6)) (length input) ≡ true
+  pub left-long : length left ≡ 128 * slotsOf (s .asked)
+  pub right-long : length right ≡ 128 * slotsOf (s .asked)
+
+both : (a b : Bool) → a && b ≡ true → (a ≡ true) × (b ≡ true)
+both true b e = (refl, e)
+both false b e = absurd (omega (arith, ap (λ (t : Bool). cond {A = ℕ} t 1 0) e))
+
+-- as the answer of a call tests it
+pub fitting-of : (s : PsDecoder) (input left right : List Float) → buffersFit (slotsOf (s .asked)) (length input) (length left) (length right) ≡ true → Fitting s input left right
+unfolding buffersFit
+fitting-of s input left right e =
+    let needed : ℕ = 128 * slotsOf (s .asked) in
+    let ample : Bool = leb (128 * (slotsOf (s .asked) + 6)) (length input) in
+    let outputs : Bool = eqb (length left) needed && eqb (length right) needed in
+    let inside = both ample outputs (both (eqb (length input % 128) 0) (ample && outputs) e .1) in
+    let sides = both (eqb (length left) needed) (eqb (length right) needed) (inside .1) in
+    record { room = inside .0; left-long = eqb-true (length left) needed (sides .0); right-long = eqb-true (length right) needed (sides .1) }
+
+-- ---- the frame of the definitions, from a state that is ready, and what is carried after it
+
+abbrev pub flatFrame : PsDecoder → Header → PsIndices → List ℕ → List Float → ℕ → Frame
+flatFrame s h indices positions input edge =
+    record {
+      head =
+          record {
+            layout = s .layout;
+            slots = slotsOf (s .asked);
+            edge = edge;
+            empty = not (h .cued);
+            borders = bordersOf (slotsOf (s .asked)) (h .variable) (min (h .envelopes) 4) positions;
+            modes = modesOf h;
+          };
+      cue = cueAt (s .layout) (h .config) indices;
+      sample = λ n k. hybrid (s .layout) (slotIn (s .history) input) n k;
+    }
+
+abbrev pub flatAfter : PsDecoder → List Float → Frame → PsIndexState → Playing
+flatAfter s input frame kept =
+    record {
+      slots = slotsOf (s .asked);
+      configured = true;
+      indices = kept;
+      past = pastAfter (s .history) input (slotsOf (s .asked));
+      core = after frame (coreOf s);
+    }
+
+-- what the stages give
+pub record Stages (s : PsDecoder) (h : Header) (indices : PsIndices) (positions : List ℕ) (input left right : List Float) (edge : ℕ) : Type 0 where
+  pub left-is : leftOf s h indices positions input left right
+      ≡ qmfRows (slotsOf (s .asked)) (λ n q. synthesised (s .layout) (leftAt (flatFrame s h indices positions input edge) (coreOf s) n) q)
+  pub right-is : rightOf s h indices positions input left right
+      ≡ qmfRows (slotsOf (s .asked)) (λ n q. synthesised (s .layout) (rightAt (flatFrame s h indices positions input edge) (coreOf s) n) q)
+  pub state-is : (kept : PsIndexState)
+      → sounded s h indices positions input left right kept ≡ stored s (flatAfter s input (flatFrame s h indices positions input edge) kept)
+
+twice-not : (t : Bool) → t ≡ not (not t)
+twice-not true = refl
+twice-not false = refl
+
+module _ (s : PsDecoder) (h : Header) (indices : PsIndices) (positions : List ℕ) (input left right : List Float) (edge : ℕ) (fitting : Fitting s input left right) where
+  abbrev slots : ℕ
+  slots = slotsOf (s .asked)
+
+  abbrev frame : Frame
+  frame = flatFrame s h indices positions input edge
+
+  abbrev core : Core
+  core = coreOf s
+
+  abbrev samples : List Float
+  samples = samplesOf s h indices positions input left right
+
+  abbrev gains : List Float
+  gains = gainsOf s h indices positions input left right
+
+  abbrev rows : List Float
+  rows = rowsOf s h indices positions input left right
+
+  few : slots ≤ 32
+  few = omega arith
+
+  many : 6 ≤ slots
+  many = omega arith
+
+  all-slots : min slots 32 ≡ slots
+  all-slots = omega arith
+
+  borders-long : length (frame .head .borders) ≡ min (h .envelopes) 4
+  borders-long = tabulate-length (borderOf slots (h .variable) (min (h .envelopes) 4) positions) (min (h .envelopes) 4)
+
+  sample-is : (n k : ℕ) → n < slots → k < channelsOf (s .layout) → sampleAt samples n k ≡ frame .sample n k
+  unfolding samplesOf
+  sample-is n k u w = sample-same (s .layout) (s .history) input (replicate 5824 zero) slots (length-replicate 5824 zero) few (fitting .room) n k u w
+
+  gain-is : (b n : ℕ) → b < bandsOf (s .layout) → n < slots → getD gains (32 * b + n) nan ≡ duck frame core b n
+  unfolding gainsOf duck detectorThen powerThen coreOf
+  gain-is b n u w =
+      ap (λ (m : ℕ). getD (gainsAfter (s .layout) (s .decorr .detectors) samples m (replicate 1088 zero)) (32 * b + n) nan) all-slots
+      ∙ gain-same (s .layout) (s .decorr .detectors) samples slots (frame .sample) sample-is (replicate 1088 zero) few b n u w
+
+  matrix-is : (b n : ℕ) → b < bandsOf (s .layout) → matrixIn (slotted.bordersOf (held 4 0 (frame .head .borders)) (h .envelopes)) (slotted.borderMatrix rows b) n ≡ matrixThen frame core b n
+  unfolding rowsOf matrixThen keptThen borders.keptThen coreOf
+  matrix-is b n u =
+      matrix-then (s .layout) (modesOf h) (h .config) indices (s .stereo) (replicate 1360 zero) (length-replicate 1360 zero) (frame .head .borders) (h .envelopes) b n borders-long u
+
+  -- each stage's list holds what the definitions say
+  pub flat : Flat frame core (held 4 0 (frame .head .borders)) (h .envelopes) samples gains rows (s .decorr .delays) (s .decorr .long) (s .decorr .short)
+  unfolding coreOf
+  flat = record { sample = sample-is; gain = gain-is; matrix = matrix-is; channel = λ k. refl }
+
+  detectors-are : detectorsAfter (s .layout) (s .decorr .detectors) samples (min slots 32) ≡ detectorsWith (s .layout) (λ b. detectorThen frame core b slots) (s .decorr .detectors)
+  unfolding detectorThen powerThen coreOf
+  detectors-are =
+      ap (detectorsAfter (s .layout) (s .decorr .detectors) samples) all-slots
+      ∙ detectors-then (s .layout) (s .decorr .detectors) samples slots (frame .sample) sample-is
+
+  stereo-is : borders.stereoAfter (s .layout) (modesOf h) (h .config) indices (s .stereo) (min (h .envelopes) 4)
+      ≡ stereoWith (s .layout) (λ b. keptThen frame core b (length (frame .head .borders))) (s .stereo)
+  unfolding borders.stereoAfter borders.keptThen keptThen coreOf
+  stereo-is = ap (λ (count : ℕ). stereoWith (s .layout) (λ b. keptThen frame core b count) (s .stereo)) (sym borders-long)
+
+  state-same : (kept : PsIndexState) → sounded s h indices positions input left right kept ≡ stored s (flatAfter s input frame kept)
+  unfolding sounded stored after coreOf
+  state-same kept =
+      λ i.
+      record {
+        asked = s .asked;
+        layout = s .layout;
+        configured = true;
+        cued = twice-not (h .cued) i;
+        indices = kept;
+        history = history-same (s .history) input (s .layout) slots many (fitting .room) i;
+        decorr =
+            record {
+              delays = delays-after flat left right few (fitting .left-long) (fitting .right-long) i;
+              long = long-after flat left right few (fitting .left-long) (fitting .right-long) i;
+              short = short-after flat left right few (fitting .left-long) (fitting .right-long) i;
+              detectors = detectors-are i;
+            };
+        stereo = stereo-is i;
+      }
+
+  pub sound-is : Stages s h indices positions input left right edge
+  unfolding leftOf rightOf
+  sound-is =
+      record {
+        left-is = left-after flat left right few (fitting .left-long) (fitting .right-long);
+        right-is = right-after flat left right few (fitting .left-long) (fitting .right-long);
+        state-is = state-same;
+      }

@@ -1,0 +1,155 @@
+-- States that are near are held by the same numbers: an image of d entries reads a history no further back than d. Assumes nothing.
+use Prim.Native.Nat.{ℕ, suc, _+_, _-_, _<_}
+use native.Mathlib.Omega.{arith}
+use mathlib.Core.Path.{_≡_, refl, sym, ap, ap₂, _∙_}
+use mathlib.Core.Bool.{Bool, true, false, cond}
+use mathlib.Core.List.{List, _++_}
+use borrow.Author.Tests.{ltb-true, lt-ltb, le-ltb}
+use lib.Dec.{ltb}
+use lib.IntN.{ℤ}
+use lib.Ieee.{Float}
+use Rattle.calls.specs.Call.{Playing}
+use Rattle.calls.specs.Near.{Alike, reachOf, NearChannel, NearCore, Near}
+use Rattle.complex.specs.declared.Complex.{Complex}
+use Rattle.layout.specs.declared.Layout.{Layout}
+use Rattle.layout.specs.declared.Layout.the-variants.{Bands20, Bands34}
+use Rattle.layout.specs.Numbers.{splitOf, bandsOf, channelsOf, allPassOf, shortDelayOf}
+use Rattle.lists.specs.Rows.{rows, tabulate}
+use Rattle.lists.proofs.Maps.{tabulate-same}
+use Rattle.lists.proofs.Rows.{rows-same}
+use Rattle.planar.specs.Cells.{overwritten}
+use Rattle.planar.specs.Frame.{numbersOf}
+use Rattle.planar.specs.Window.{imageOf}
+use Rattle.ps_decorr.specs.Channels.{delaysWith, longWith, shortWith, detectorsWith}
+use Rattle.ps_decorr_allpass.specs.Memory.{memoryOf}
+use Rattle.ps_stereo.specs.declared.PsStereo.{PsStereo}
+use Rattle.ps_stereo.specs.Kept.{keptIn, stereoWith}
+use Rattle.standard.specs.Channel.{Channel, back}
+use Rattle.standard.specs.Core.{Core}
+use Rattle.standard.specs.Detector.{Detector}
+use Rattle.standard.specs.Mixing.{Kept}
+use Rattle.ps_state.specs.declared.PsDecoder.{PsDecoder}
+use Rattle.ps_state.specs.State.{historyWith, stored}
+
+-- ---- images
+
+image-alike : (d : ℕ) (g h : List Complex) → Alike d g h → imageOf d g ≡ imageOf d h
+image-alike d g h alike =
+    ap₂ (λ (a b : List Float). a ++ b)
+    (tabulate-same (λ i. back (d - suc i) g .re) (λ i. back (d - suc i) h .re) d (λ i u. ap (λ (z : Complex). z .re) (alike (d - suc i) (omega arith))))
+    (tabulate-same (λ i. back (d - suc i) g .im) (λ i. back (d - suc i) h .im) d (λ i u. ap (λ (z : Complex). z .im) (alike (d - suc i) (omega arith))))
+
+-- a choice that differs only where the test fails
+chosen : {A : Type 0} (t : Bool) (x y z : A) → (t ≡ true → x ≡ y) → cond t x z ≡ cond t y z
+chosen true x y z e = e refl
+chosen false x y z e = refl
+
+-- how far back each kind of channel looks
+reach-chain : (l : Layout) (k : ℕ) → k < allPassOf l → reachOf l k ≡ 2
+reach-chain l k u = rw (lt-ltb k (allPassOf l) u)
+
+reach-long : (l : Layout) (j : ℕ) → j < 12 → reachOf l (allPassOf l + j) ≡ 14
+reach-long Bands20 j u = rw (le-ltb (30 + j) 30 (omega arith), lt-ltb (30 + j) 42 (omega arith))
+reach-long Bands34 j u = rw (le-ltb (50 + j) 50 (omega arith), lt-ltb (50 + j) 62 (omega arith))
+
+reach-short : (l : Layout) (j : ℕ) → reachOf l (shortDelayOf l + j) ≡ 1
+reach-short Bands20 j = rw (le-ltb (42 + j) 30 (omega arith), le-ltb (42 + j) 42 (omega arith))
+reach-short Bands34 j = rw (le-ltb (62 + j) 50 (omega arith), le-ltb (62 + j) 62 (omega arith))
+
+chain-inside : (l : Layout) (k : ℕ) → k < allPassOf l → k < channelsOf l
+chain-inside Bands20 k u = omega arith
+chain-inside Bands34 k u = omega arith
+
+long-inside : (l : Layout) (j : ℕ) → j < 12 → allPassOf l + j < channelsOf l
+long-inside Bands20 j u = omega arith
+long-inside Bands34 j u = omega arith
+
+short-inside : (l : Layout) (j : ℕ) → j < 29 → shortDelayOf l + j < channelsOf l
+short-inside Bands20 j u = omega arith
+short-inside Bands34 j u = omega arith
+
+-- ---- the channels
+
+module _ (l : Layout) (c d : ℕ → Channel) (near : (k : ℕ) → k < channelsOf l → NearChannel l k (c k) (d k)) where
+  past-alike : (k reach : ℕ) → k < channelsOf l → reachOf l k ≡ reach → imageOf reach (c k .past) ≡ imageOf reach (d k .past)
+  past-alike k reach u e = image-alike reach (c k .past) (d k .past) (λ i v. near k u .past i (rw e v))
+
+  memory-alike : (k : ℕ) → k < allPassOf l → memoryOf (c k) ≡ memoryOf (d k)
+  memory-alike k u =
+      let n = near k (chain-inside l k u) in
+      ap₂ (λ (a b : List Float). a ++ b) (past-alike k 2 (chain-inside l k u) (reach-chain l k u))
+      (ap₂ (λ (a b : List Float). a ++ b) (image-alike 3 (c k .first) (d k .first) (n .first u))
+      (ap₂ (λ (a b : List Float). a ++ b) (image-alike 4 (c k .second) (d k .second) (n .second u)) (image-alike 5 (c k .third) (d k .third) (n .third u))))
+
+  delays-alike : (old : List Float) → delaysWith l c old ≡ delaysWith l d old
+  unfolding delaysWith
+  delays-alike old = rows-same _ _ 50 (λ k u. chosen (ltb k (allPassOf l)) _ _ _ (λ e. memory-alike k (ltb-true k (allPassOf l) e)))
+
+  long-alike : longWith l c ≡ longWith l d
+  unfolding longWith
+  long-alike = rows-same _ _ 12 (λ j u. past-alike (allPassOf l + j) 14 (long-inside l j u) (reach-long l j u))
+
+  short-alike : shortWith l c ≡ shortWith l d
+  unfolding shortWith
+  short-alike = rows-same _ _ 29 (λ j u. past-alike (shortDelayOf l + j) 1 (short-inside l j u) (reach-short l j))
+
+-- ---- the bands
+
+-- what is overwritten in the first n places
+over-alike : {A : Type 0} (n : ℕ) (c d old : ℕ → A) → ((b : ℕ) → b < n → c b ≡ d b) → (b : ℕ) → overwritten n c old b ≡ overwritten n d old b
+over-alike n c d old same b = chosen (ltb b n) (c b) (d b) (old b) (λ e. same b (ltb-true b n e))
+
+detectors-alike : (l : Layout) (c d : ℕ → Detector) → ((b : ℕ) → b < bandsOf l → c b ≡ d b) → (old : List Float) → detectorsWith l c old ≡ detectorsWith l d old
+unfolding detectorsWith
+detectors-alike l c d same old =
+    let over = over-alike (bandsOf l) c d _ same in
+    ap₂ (λ (a b : List Float). a ++ b) (tabulate-same _ _ 34 (λ b u. ap (λ (x : Detector). x .peak) (over b)))
+    (ap₂ (λ (a b : List Float). a ++ b) (tabulate-same _ _ 34 (λ b u. ap (λ (x : Detector). x .smooth) (over b)))
+    (tabulate-same _ _ 34 (λ b u. ap (λ (x : Detector). x .difference) (over b))))
+
+stereo-alike : (l : Layout) (c d : ℕ → Kept) → ((b : ℕ) → b < bandsOf l → c b ≡ d b) → (old : PsStereo) → stereoWith l c old ≡ stereoWith l d old
+unfolding stereoWith
+stereo-alike l c d same old = λ i. record { matrices = matrices i; phases = phases i }
+  where
+    over : (b : ℕ) → overwritten (bandsOf l) c (keptIn old) b ≡ overwritten (bandsOf l) d (keptIn old) b
+    over = over-alike (bandsOf l) c d (keptIn old) same
+
+    matrices : stereoWith l c old .matrices ≡ stereoWith l d old .matrices
+    matrices = rows-same _ _ 34 (λ b u. chosen (ltb b (bandsOf l)) _ _ _ (λ e. ap (λ (x : Kept). numbersOf (x .matrix)) (same b (ltb-true b (bandsOf l) e))))
+
+    phases : stereoWith l c old .phases ≡ stereoWith l d old .phases
+    phases =
+        ap₂ (λ (a b : List ℤ). a ++ b) (tabulate-same _ _ 34 (λ b u. ap (λ (x : Kept). x .ipd .oldest) (over b)))
+        (ap₂ (λ (a b : List ℤ). a ++ b) (tabulate-same _ _ 34 (λ b u. ap (λ (x : Kept). x .ipd .previous) (over b)))
+        (ap₂ (λ (a b : List ℤ). a ++ b) (tabulate-same _ _ 34 (λ b u. ap (λ (x : Kept). x .opd .oldest) (over b)))
+        (tabulate-same _ _ 34 (λ b u. ap (λ (x : Kept). x .opd .previous) (over b)))))
+
+-- ---- the whole
+
+history-alike : (l : Layout) (g h : ℕ → List Complex) → ((p : ℕ) → p < splitOf l → Alike 6 (g p) (h p)) → (old : List Float) → historyWith l g old ≡ historyWith l h old
+unfolding historyWith
+history-alike l g h alike old = rows-same _ _ 5 (λ p u. chosen (ltb p (splitOf l)) _ _ _ (λ e. image-alike 6 (g p) (h p) (alike p (ltb-true p (splitOf l) e))))
+
+pub stored-near : (old : PsDecoder) (s t : Playing) → Near s t → stored old s ≡ stored old t
+unfolding stored
+stored-near old s t near =
+    let core = near .core in
+    let l = s .core .layout in
+    let e : l ≡ t .core .layout = core .layout in
+    let history = history-alike l (s .past) (t .past) (near .past) (old .history) ∙ ap (λ (x : Layout). historyWith x (t .past) (old .history)) e in
+    let delays = delays-alike l (s .core .channel) (t .core .channel) (core .channel) (old .decorr .delays) ∙ ap (λ (x : Layout). delaysWith x (t .core .channel) (old .decorr .delays)) e in
+    let long = long-alike l (s .core .channel) (t .core .channel) (core .channel) ∙ ap (λ (x : Layout). longWith x (t .core .channel)) e in
+    let short = short-alike l (s .core .channel) (t .core .channel) (core .channel) ∙ ap (λ (x : Layout). shortWith x (t .core .channel)) e in
+    let detectors = detectors-alike l (s .core .detector) (t .core .detector) (core .detector) (old .decorr .detectors)
+    ∙ ap (λ (x : Layout). detectorsWith x (t .core .detector) (old .decorr .detectors)) e in
+    let stereo = stereo-alike l (s .core .kept) (t .core .kept) (core .kept) (old .stereo) ∙ ap (λ (x : Layout). stereoWith x (t .core .kept) (old .stereo)) e in
+    λ i. record {
+      asked = old .asked;
+      layout = core .layout i;
+      configured = near .configured i;
+      cued = core .cued i;
+      indices = near .indices i;
+      history = history i;
+      decorr = record { delays = delays i; long = long i; short = short i; detectors = detectors i };
+      stereo = stereo i;
+    }

@@ -1,0 +1,8 @@
+pub mod Literals
+pub mod Alike
+pub mod Images
+pub mod Stored
+pub mod Cleared
+pub mod Channels
+pub mod Remapped
+pub mod Readied

@@ -1,0 +1,190 @@
+-- The state made ready over flat numbers is near the state that the definitions make ready, and keeps its lengths. Assumes nothing.
+use mathlib.Core.Path.{_≡_, refl, _∙_}
+use mathlib.Core.Bool.{Bool, true, false, cond}
+use mathlib.Core.List.{List, []}
+use Prim.Native.Nat.{ℕ, _+_, _-_, _*_, _<_, _≤_, min}
+use native.Mathlib.Omega.{arith}
+use lib.Ieee.{Float, nan}
+use lib.IntN.{pos}
+use lib.ListN.{getD, replicate, length-replicate, getD-replicate}
+use Rattle.calls.specs.Near.{Alike, NearCore}
+use Rattle.layout.specs.declared.Layout.{Layout}
+use Rattle.layout.specs.declared.Layout.the-variants.{Bands20, Bands34}
+use Rattle.layout.specs.Numbers.{bandsOf, allPassOf, shortDelayOf}
+use Rattle.lists.specs.Part.{part}
+use Rattle.planar.specs.Window.{historyOf}
+use Rattle.ps_decorr.specs.State.{freshDecorr, resetFrom}
+use Rattle.ps_decorr_transient.specs.Gains.{detectorOf}
+use Rattle.ps_stereo.specs.State.{switchedTo}
+use Rattle.standard.specs.Core.{Core, Head, sameLayout, remapped, switched, clearFrom, cleared, ready}
+use Rattle.standard.specs.Channel.{silent}
+use Rattle.standard.specs.Detector.{calm}
+use Rattle.standard.specs.Numbers.{zero}
+use Rattle.ps_state.specs.declared.PsDecoder.{PsDecoder}
+use Rattle.ps_state.specs.State.{coreOf}
+use Rattle.ps_state.specs.Ready.{switchedFrom, clearedPlace, readied}
+use Rattle.ps_state.specs.Shape.{Shaped}
+use Rattle.ps_state.proofs.Images.{part-repeated, held-silent}
+use Rattle.ps_state.proofs.Cleared.{cleared-length}
+use Rattle.ps_state.proofs.Channels.{Sized, fresh-sized, near-cleared, near-renewed}
+use Rattle.ps_state.proofs.Remapped.{remapped-length, remapped-kept}
+
+-- ---- in two steps: a change of layout, then the reset
+
+same-is : (a b : Layout) → sameLayout a b ≡ true → a ≡ b
+unfolding sameLayout
+same-is Bands20 Bands20 e = refl
+same-is Bands20 Bands34 e = cc
+same-is Bands34 Bands20 e = cc
+same-is Bands34 Bands34 e = refl
+
+bands-few : (l : Layout) → bandsOf l ≤ 34
+bands-few Bands20 = omega arith
+bands-few Bands34 = omega arith
+
+-- the state after a real change of layout, over numbers and in the definitions
+abbrev renewed : Layout → PsDecoder → PsDecoder
+renewed l s =
+    record {
+      asked = s .asked;
+      layout = l;
+      configured = s .configured;
+      cued = s .cued;
+      indices = s .indices;
+      history = replicate 60 zero;
+      decorr = freshDecorr;
+      stereo = switchedTo l (s .stereo);
+    }
+
+abbrev renewedCore : Layout → Core → Core
+renewedCore l s = record { layout = l; cued = s .cued; channel = λ k. silent; detector = λ b. calm; kept = remapped l (s .kept) }
+
+-- the reset alone
+abbrev resetIn : Layout → ℕ → PsDecoder → PsDecoder
+resetIn l edge t =
+    record {
+      asked = t .asked;
+      layout = t .layout;
+      configured = t .configured;
+      cued = t .cued;
+      indices = t .indices;
+      history = t .history;
+      decorr = resetFrom l (clearedPlace l edge (t .cued)) (t .decorr);
+      stereo = t .stereo;
+    }
+
+abbrev resetCore : Head → Core → Core
+resetCore head t =
+    record { layout = t .layout; cued = t .cued; channel = cleared (clearFrom head (t .cued)) (t .channel); detector = t .detector; kept = t .kept }
+
+-- each state made ready is one of the two after the reset
+module _ (s : PsDecoder) (l : Layout) (edge : ℕ) where
+  readied-same : sameLayout (s .layout) l ≡ true → readied l edge s ≡ resetIn l edge s
+  unfolding readied switchedFrom
+  readied-same e = rw e
+
+  readied-other : sameLayout (s .layout) l ≡ false → readied l edge s ≡ resetIn l edge (renewed l s)
+  unfolding readied switchedFrom
+  readied-other e = rw e
+
+module _ (s : Core) (head : Head) where
+  ready-same : sameLayout (s .layout) (head .layout) ≡ true → ready head s ≡ resetCore head s
+  unfolding ready switched
+  ready-same e = rw e
+
+  ready-other : sameLayout (s .layout) (head .layout) ≡ false → ready head s ≡ resetCore head (renewedCore (head .layout) s)
+  unfolding ready switched
+  ready-other e = rw e
+
+-- ---- near, for each of the two
+
+detector-same : (m : List Float) (z : Float) (b : ℕ) → ((i : ℕ) → i < 102 → getD m i nan ≡ z)
+    → b < 34 → detectorOf m b ≡ record { peak = z; smooth = z; difference = z }
+detector-same m z b all u = rw (all b (omega arith), all (b + 34) (omega arith), all (b + 68) (omega arith))
+
+calm-zeros : (b : ℕ) → b < 34 → detectorOf (replicate 102 zero) b ≡ calm
+calm-zeros b u = detector-same (replicate 102 zero) zero b (λ i v. getD-replicate 102 i zero nan v) u
+
+module _ (s : PsDecoder) (head : Head) (shape : Shaped s) where
+  abbrev l : Layout
+  l = head .layout
+
+  sized : Sized (s .decorr)
+  sized = record { delays = shape .delays; long = shape .long; short = shape .short }
+
+  near-kept : s .layout ≡ l → NearCore (coreOf (resetIn l (head .edge) s)) (resetCore head (coreOf s))
+  unfolding coreOf clearFrom resetFrom
+  near-kept e =
+      record {
+        layout = refl;
+        cued = refl;
+        channel = λ k u. rw e (near-cleared l (clearedPlace l (head .edge) (s .cued)) k (rw e at u) (s .decorr) sized);
+        detector = λ b u. refl;
+        kept = λ b u. refl;
+      }
+
+  near-changed : NearCore (coreOf (resetIn l (head .edge) (renewed l s))) (resetCore head (renewedCore l (coreOf s)))
+  unfolding coreOf clearFrom resetFrom
+  near-changed =
+      record {
+        layout = refl;
+        cued = refl;
+        channel = λ k u. near-renewed l (clearedPlace l (head .edge) (s .cued)) k u;
+        detector = λ b u. calm-zeros b (omega (arith, bands-few l));
+        kept = λ b u. remapped-kept l (s .stereo) b (omega (arith, bands-few l));
+      }
+
+pub near-readied : (s : PsDecoder) (head : Head) → Shaped s → NearCore (coreOf (readied (head .layout) (head .edge) s)) (ready head (coreOf s))
+unfolding coreOf
+near-readied s head shape = go (sameLayout (s .layout) (head .layout)) refl
+  where
+    go : (same : Bool) → sameLayout (s .layout) (head .layout) ≡ same → NearCore (coreOf (readied (head .layout) (head .edge) s)) (ready head (coreOf s))
+    go true e = rw (readied-same s (head .layout) (head .edge) e, ready-same (coreOf s) head e) (near-kept s head shape (same-is (s .layout) (head .layout) e))
+    go false e = rw (readied-other s (head .layout) (head .edge) e, ready-other (coreOf s) head e) (near-changed s head shape)
+
+-- ---- the lengths
+
+reset-shaped : (l : Layout) (edge : ℕ) (t : PsDecoder) → Shaped t → Shaped (resetIn l edge t)
+unfolding resetFrom
+reset-shaped l edge t shape =
+    let place = clearedPlace l edge (t .cued) in
+    record {
+      history = shape .history;
+      delays = cleared-length (28 * min place 50) (t .decorr .delays) (omega (arith, shape .delays)) ∙ shape .delays;
+      long = cleared-length (28 * min (place - allPassOf l) 12) (t .decorr .long) (omega (arith, shape .long)) ∙ shape .long;
+      short = cleared-length (2 * min (place - shortDelayOf l) 29) (t .decorr .short) (omega (arith, shape .short)) ∙ shape .short;
+      detectors = shape .detectors;
+      matrices = shape .matrices;
+      phases = shape .phases;
+    }
+
+renewed-shaped : (l : Layout) (s : PsDecoder) → Shaped (renewed l s)
+unfolding switchedTo
+renewed-shaped l s =
+    record {
+      history = length-replicate 60 zero;
+      delays = fresh-sized .delays;
+      long = fresh-sized .long;
+      short = fresh-sized .short;
+      detectors = length-replicate 102 zero;
+      matrices = remapped-length l (s .stereo .matrices);
+      phases = length-replicate 136 (pos 0);
+    }
+
+pub shaped-readied : (s : PsDecoder) (l : Layout) (edge : ℕ) → Shaped s → Shaped (readied l edge s)
+shaped-readied s l edge shape = go (sameLayout (s .layout) l) refl
+  where
+    go : (same : Bool) → sameLayout (s .layout) l ≡ same → Shaped (readied l edge s)
+    go true e = rw (readied-same s l edge e) (reset-shaped l edge s shape)
+    go false e = rw (readied-other s l edge e) (reset-shaped l edge (renewed l s) (renewed-shaped l s))
+
+-- ---- the hybrid history: kept, or silent after a real change
+
+pub readied-history : (s : PsDecoder) (l : Layout) (edge : ℕ) → Shaped s → (p : ℕ) → p < 5
+    → Alike 6 (historyOf 6 6 (part (12 * p) 12 (readied l edge s .history))) (cond (sameLayout (s .layout) l) (historyOf 6 6 (part (12 * p) 12 (s .history))) [])
+readied-history s l edge shape p u = go (sameLayout (s .layout) l) refl
+  where
+    go : (same : Bool) → sameLayout (s .layout) l ≡ same
+        → Alike 6 (historyOf 6 6 (part (12 * p) 12 (readied l edge s .history))) (cond (sameLayout (s .layout) l) (historyOf 6 6 (part (12 * p) 12 (s .history))) [])
+    go true e = rw (readied-same s l edge e, e) (λ i v. refl)
+    go false e = rw (readied-other s l edge e, e) (held-silent 6 (part (12 * p) 12 (replicate 60 zero)) (part-repeated (12 * p) 12 60 zero (omega arith)))
