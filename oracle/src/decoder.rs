@@ -2,14 +2,16 @@
 
 use crate::judge::Judge;
 use crate::line;
+use crate::samples::Noise;
 
 pub const LARGEST_SAMPLE: f64 = 1_048_576.0;
 
-/// One call: line, lent input, lengths of the lent outputs, spectrum edge.
+/// One call: line, lent input, the noise that it was made from, lengths of the lent outputs, spectrum edge.
 #[derive(Clone)]
 pub struct Frame {
     pub line: Vec<u8>,
     pub input: Vec<f64>,
+    pub noise: Noise,
     pub left: usize,
     pub right: usize,
     pub edge: u64,
@@ -50,7 +52,7 @@ impl<J: Judge> Decoder<J> {
 
     /// The refusals in document 01's order; the Rust sees accepted frames only.
     pub fn frame(&mut self, frame: &Frame) -> Outcome {
-        let bytes = match self.accepted(frame) {
+        let bytes = match accepted(self.slots, self.configured, frame) {
             Ok(bytes) => bytes,
             Err(answer) => {
                 return Outcome {
@@ -69,29 +71,30 @@ impl<J: Judge> Decoder<J> {
             right,
         }
     }
+}
 
-    fn accepted(&self, frame: &Frame) -> Result<Option<Vec<u8>>, u8> {
-        let bytes = line::bytes_of(&frame.line)?;
-        if bytes.is_none() && !self.configured {
-            return Err(1);
-        }
-        let read = (self.slots + 6) * 128;
-        let written = self.slots * 128;
-        let input = &frame.input;
-        if input.len() % 128 != 0 || input.len() < read {
-            return Err(5);
-        }
-        if frame.left != written || frame.right != written {
-            return Err(5);
-        }
-        if input[..read]
-            .iter()
-            .any(|sample| !(sample.abs() <= LARGEST_SAMPLE))
-        {
-            return Err(6);
-        }
-        Ok(bytes)
+/// An accepted frame's bytes, none for an empty line, or the answer that is not 0.
+pub fn accepted(slots: usize, configured: bool, frame: &Frame) -> Result<Option<Vec<u8>>, u8> {
+    let bytes = line::bytes_of(&frame.line)?;
+    if bytes.is_none() && !configured {
+        return Err(1);
     }
+    let read = (slots + 6) * 128;
+    let written = slots * 128;
+    let input = &frame.input;
+    if input.len() % 128 != 0 || input.len() < read {
+        return Err(5);
+    }
+    if frame.left != written || frame.right != written {
+        return Err(5);
+    }
+    if input[..read]
+        .iter()
+        .any(|sample| !(sample.abs() <= LARGEST_SAMPLE))
+    {
+        return Err(6);
+    }
+    Ok(bytes)
 }
 
 /// A whole run from fresh state: every answer and every output number.

@@ -36,23 +36,23 @@ impl Style {
         self.wander(random);
         let variable = if random.one_in(3) { 4 } else { 0 };
         let envelopes = random.pick(&[0, 1, 1, 2, 2, 3, 4, 4]);
-        let head = [
-            self.present + variable,
-            self.iid_mode,
-            self.icc_mode,
-            envelopes,
-        ];
-        let shape = Shape::of(head);
-        let mut bytes = head.to_vec();
-        bytes.extend(borders(random, shape.borders));
-        for count in shape.kinds().into_iter().flatten() {
-            for _ in 0..shape.envelopes {
-                bytes.push(random.below(2) as u8);
-                bytes.extend(deltas(random, count));
-            }
-        }
-        bytes
+        let present = self.present + variable;
+        bytes(random, [present, self.iid_mode, self.icc_mode, envelopes])
     }
+}
+
+/// The bytes of a line that is accepted, with that head.
+pub fn bytes(random: &mut Random, head: [u8; 4]) -> Vec<u8> {
+    let shape = Shape::of(head);
+    let mut bytes = head.to_vec();
+    bytes.extend(borders(random, shape.borders));
+    for count in shape.kinds().into_iter().flatten() {
+        for _ in 0..shape.envelopes {
+            bytes.push(random.below(2) as u8);
+            bytes.extend(deltas(random, count));
+        }
+    }
+    bytes
 }
 
 /// Rising borders two times of three, otherwise any, which may fall back or repeat.

@@ -4,15 +4,18 @@ mod bits;
 mod compare;
 mod coverage;
 mod decoder;
+mod fixed;
 mod judge;
 mod line;
 mod lines;
 mod listing;
+mod narrow;
 mod random;
 mod runs;
 mod samples;
 mod shrink;
 mod smallest;
+mod stream;
 mod table_check;
 mod table_data;
 mod tabled;
@@ -28,7 +31,10 @@ const USAGE: &str = "usage: oracle tables
        oracle smallest
        oracle indices < LINES
        oracle maps < ROWS
-       oracle lines [--count N] [--seed S]";
+       oracle lines [--count N] [--seed S]
+       oracle runs [--count N] [--seed S] > STREAM
+       oracle runs --fixed > STREAM
+       oracle narrow --seed RUN_SEED PROGRAM [WORDS]";
 
 /// The number after an option, or its default; a bad one ends the program.
 fn option(words: &[String], name: &str, default: u64) -> u64 {
@@ -46,7 +52,8 @@ fn option(words: &[String], name: &str, default: u64) -> u64 {
 
 /// A misspelt option must not pass for its default.
 fn known(word: &String) -> bool {
-    !word.starts_with('-') || ["--frames", "--count", "--seed", "--faint"].contains(&word.as_str())
+    let options = ["--frames", "--count", "--seed", "--faint", "--fixed"];
+    !word.starts_with('-') || options.contains(&word.as_str())
 }
 
 fn main() -> ExitCode {
@@ -58,7 +65,8 @@ fn main() -> ExitCode {
     let frames = option(&words, "--frames", 10_000) as usize;
     let count = option(&words, "--count", 1_000) as usize;
     let seed = option(&words, "--seed", 1);
-    let faint = words.iter().any(|word| word == "--faint");
+    let given = |name: &str| words.iter().any(|word| word == name);
+    let faint = given("--faint");
     let held = match words.first().map(String::as_str) {
         Some("tables") => table_check::check(),
         Some("variants") => compare::variants(frames, seed, faint),
@@ -68,6 +76,9 @@ fn main() -> ExitCode {
         Some("indices") => listing::indices(),
         Some("maps") => listing::maps(),
         Some("lines") => listing::print_lines(count, seed),
+        Some("runs") if given("--fixed") => stream::print(fixed::runs()),
+        Some("runs") => stream::print((seed..seed + count as u64).map(runs::with_refusals)),
+        Some("narrow") if words.len() > 3 => narrow::narrow(seed, &words[3..]),
         _ => {
             eprintln!("{USAGE}");
             return ExitCode::from(2);

@@ -1,7 +1,7 @@
 //! The generator's only source of chance: a linear congruence modulo 2^32 held in 64 bits.
 
 pub struct Random {
-    state: u64,
+    pub state: u64,
 }
 
 impl Random {

@@ -1,9 +1,9 @@
 //! Whole runs by chance: lines, samples, buffer lengths and edges, with refusals among them.
 
-use crate::decoder::{Frame, LARGEST_SAMPLE, Run, slots_of};
+use crate::decoder::{Frame, LARGEST_SAMPLE, Run, accepted, slots_of};
 use crate::lines::{self, Style};
 use crate::random::Random;
-use crate::samples::{self, FAINTEST, KINDS, Kind};
+use crate::samples::{self, FAINTEST, KINDS, Kind, Noise};
 
 /// What a run's frames share.
 struct Plan {
@@ -29,6 +29,42 @@ pub fn run(seed: u64, all_faint: bool) -> Run {
     let count = 1 + random.below(24);
     let frames = (0..count).map(|_| frame(&mut random, &mut plan)).collect();
     Run { asked, frames }
+}
+
+/// The run of a seed, with calls before each frame that are refused or quiet. The accepted frames stay those of `run`.
+pub fn with_refusals(seed: u64) -> Run {
+    let mut random = Random::new(seed + 2147483648);
+    let Run { asked, frames } = run(seed, false);
+    let slots = slots_of(asked);
+    let mut configured = false;
+    let mut calls = Vec::new();
+    for frame in frames {
+        for _ in 0..random.below(3) {
+            let call = spoilt(&mut random, slots, &frame);
+            if accepted(slots, configured, &call).is_err() {
+                calls.push(call);
+            }
+        }
+        configured |= accepted(slots, configured, &frame).is_ok();
+        calls.push(frame);
+    }
+    Run {
+        asked,
+        frames: calls,
+    }
+}
+
+fn spoilt(random: &mut Random, slots: usize, frame: &Frame) -> Frame {
+    let mut call = frame.clone();
+    match random.below(3) {
+        0 => {
+            let mut style = Style::new(random);
+            call.line = lines::bad(random, &mut style);
+        }
+        1 => spoil_lengths(random, &mut call),
+        _ => spoil_sample(random, slots, &mut call.input),
+    }
+    call
 }
 
 fn asked(random: &mut Random) -> u64 {
@@ -58,11 +94,12 @@ fn frame(random: &mut Random, plan: &mut Plan) -> Frame {
         _ => lines::good(random, &mut plan.style),
     };
     let written = plan.slots * 128;
-    let input = input(random, plan);
+    let (input, noise) = input(random, plan);
     let edge = edge(random);
     let mut frame = Frame {
         line,
         input,
+        noise,
         left: written,
         right: written,
         edge,
@@ -77,7 +114,7 @@ fn frame(random: &mut Random, plan: &mut Plan) -> Frame {
 }
 
 /// Noise half of the time; rows beyond those read may hold anything.
-fn input(random: &mut Random, plan: &Plan) -> Vec<f64> {
+fn input(random: &mut Random, plan: &Plan) -> (Vec<f64>, Noise) {
     let faint = plan.scale < -30;
     let kind = if random.one_in(2) {
         Kind::Noise
@@ -95,7 +132,7 @@ fn input(random: &mut Random, plan: &Plan) -> Vec<f64> {
     } else {
         plan.scale
     };
-    let mut input = samples::fill(random, kind, scale, plan.slots + 6);
+    let (mut input, noise) = samples::fill(random, kind, scale, plan.slots + 6);
     if random.one_in(8) {
         let more = 128 * (1 + random.below(3));
         input.resize(
@@ -103,7 +140,7 @@ fn input(random: &mut Random, plan: &Plan) -> Vec<f64> {
             random.pick(&[0.0, f64::NAN, f64::INFINITY, 2e6]),
         );
     }
-    input
+    (input, noise)
 }
 
 fn edge(random: &mut Random) -> u64 {
@@ -117,7 +154,9 @@ fn edge(random: &mut Random) -> u64 {
 fn spoil_lengths(random: &mut Random, frame: &mut Frame) {
     let numbers = random.pick(&[1, 2, 64, 127, 128]);
     match random.below(5) {
-        0 => frame.input.truncate(frame.input.len() - numbers),
+        0 => frame
+            .input
+            .truncate(frame.input.len().saturating_sub(numbers)),
         1 => frame.input.resize(frame.input.len() + numbers, 0.0),
         2 => frame.left += numbers,
         3 => frame.right -= numbers,

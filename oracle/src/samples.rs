@@ -40,42 +40,73 @@ fn number(random: &mut Random, step: f64) -> f64 {
     (random.next() as i64 - 2147483648) as f64 * step
 }
 
-/// `rows` rows of 64 complex numbers, none above 2^scale in magnitude but for Special.
-pub fn fill(random: &mut Random, kind: Kind, scale: i32, rows: usize) -> Vec<f64> {
-    let mut input = vec![0.0; rows * 128];
-    let step = power_of_two(scale - 31);
+/// Noise that can be made again: one step a number, in the first `width` numbers of each row, as far as `reach`.
+#[derive(Clone, Copy)]
+pub struct Noise {
+    pub state: u64,
+    pub step: f64,
+    pub width: usize,
+    pub reach: usize,
+}
+
+pub const SILENCE: Noise = Noise {
+    state: 0,
+    step: 0.0,
+    width: 0,
+    reach: 0,
+};
+
+impl Noise {
+    /// The noise of a kind, from where the generator is; the kinds with rules of their own have none.
+    fn of(random: &Random, kind: Kind, scale: i32, rows: usize) -> Noise {
+        let whole = Noise {
+            state: random.state,
+            step: power_of_two(scale - 31),
+            width: 128,
+            reach: rows * 128,
+        };
+        match kind {
+            Kind::Noise => whole,
+            Kind::Subnormal => Noise {
+                step: power_of_two(-1074),
+                ..whole
+            },
+            Kind::LowBands => Noise { width: 12, ..whole },
+            Kind::FirstRow => Noise {
+                reach: 128,
+                ..whole
+            },
+            _ => Noise { reach: 0, ..whole },
+        }
+    }
+
+    /// That many numbers: the noise, and +0 where there is none.
+    pub fn numbers(&self, random: &mut Random, count: usize) -> Vec<f64> {
+        let mut sample = |place: usize| match place < self.reach && place % 128 < self.width {
+            true => number(random, self.step),
+            false => 0.0,
+        };
+        (0..count).map(&mut sample).collect()
+    }
+}
+
+/// `rows` rows of 64 complex numbers, none above 2^scale in magnitude but for Special, and the noise under them.
+pub fn fill(random: &mut Random, kind: Kind, scale: i32, rows: usize) -> (Vec<f64>, Noise) {
+    let noise = Noise::of(random, kind, scale, rows);
+    let mut input = noise.numbers(random, rows * 128);
     match kind {
-        Kind::Silence => {}
-        Kind::Noise => input
-            .iter_mut()
-            .for_each(|place| *place = number(random, step)),
         Kind::Impulse => {
             let place = (random.below(rows) * 64 + random.below(64)) * 2;
-            input[place] = number(random, step);
-            input[place + 1] = number(random, step);
+            input[place] = number(random, noise.step);
+            input[place + 1] = number(random, noise.step);
         }
         Kind::RowScales => row_scales(random, scale, &mut input),
         Kind::Special => input
             .iter_mut()
-            .for_each(|place| *place = special(random, step)),
-        Kind::Subnormal => {
-            let least = power_of_two(-1074);
-            input
-                .iter_mut()
-                .for_each(|place| *place = number(random, least));
-        }
-        Kind::LowBands => {
-            for row in input.chunks_exact_mut(128) {
-                row[..12]
-                    .iter_mut()
-                    .for_each(|place| *place = number(random, step));
-            }
-        }
-        Kind::FirstRow => input[..128]
-            .iter_mut()
-            .for_each(|place| *place = number(random, step)),
+            .for_each(|place| *place = special(random, noise.step)),
+        _ => {}
     }
-    input
+    (input, noise)
 }
 
 /// Each row at a scale of its own, up to 50 powers of two below the given one.

@@ -12,29 +12,34 @@ pub fn shrink(seed: u64, all_faint: bool) -> bool {
         return false;
     };
     run.frames.truncate(first + 1);
-    drop_frames(&mut run);
-    for frame in 0..run.frames.len() {
-        silence(&mut run, frame);
-    }
+    cut(&mut run, &|run| !beyond(run).is_empty());
     print(&run);
     true
 }
 
-fn drop_frames(run: &mut Run) {
+/// Fewest frames, then fewest samples, that still show what is looked for.
+pub fn cut(run: &mut Run, shows: &dyn Fn(&Run) -> bool) {
+    drop_frames(run, shows);
+    for frame in 0..run.frames.len() {
+        silence(run, frame, shows);
+    }
+}
+
+fn drop_frames(run: &mut Run, shows: &dyn Fn(&Run) -> bool) {
     let mut place = 0;
     while place < run.frames.len() {
         let mut fewer = run.clone();
         fewer.frames.remove(place);
-        if beyond(&fewer).is_empty() {
-            place += 1;
-        } else {
+        if shows(&fewer) {
             *run = fewer;
+        } else {
+            place += 1;
         }
     }
 }
 
-/// Silence ever smaller pieces of a frame's input while the distance remains.
-fn silence(run: &mut Run, frame: usize) {
+/// Silence ever smaller pieces of a frame's input while it shows.
+fn silence(run: &mut Run, frame: usize, shows: &dyn Fn(&Run) -> bool) {
     let mut size = run.frames[frame].input.len() / 2;
     while size > 0 {
         for start in (0..run.frames[frame].input.len()).step_by(size) {
@@ -45,7 +50,7 @@ fn silence(run: &mut Run, frame: usize) {
             }
             let mut quieter = run.clone();
             quieter.frames[frame].input[start..end].fill(0.0);
-            if !beyond(&quieter).is_empty() {
+            if shows(&quieter) {
                 *run = quieter;
             }
         }
@@ -53,11 +58,25 @@ fn silence(run: &mut Run, frame: usize) {
     }
 }
 
+/// A run, and its frames beyond 2^-30.
 pub fn print(run: &Run) {
+    print_run(run);
+    for distance in beyond(run) {
+        print_distance(&distance);
+    }
+}
+
+pub fn print_run(run: &Run) {
     println!("asked slots {}, slots {}", run.asked, slots_of(run.asked));
     for (number, frame) in run.frames.iter().enumerate() {
         let line = String::from_utf8_lossy(&frame.line);
         println!("frame {number}: edge {}, line {line}", frame.edge);
+        println!(
+            "  numbers lent: input {}, left {}, right {}",
+            frame.input.len(),
+            frame.left,
+            frame.right
+        );
         let samples: Vec<_> = frame
             .input
             .iter()
@@ -73,9 +92,6 @@ pub fn print(run: &Run) {
             );
         }
         println!("  samples other than 0: {}", samples.len());
-    }
-    for distance in beyond(run) {
-        print_distance(&distance);
     }
 }
 

@@ -3,7 +3,7 @@
 use crate::compare::{Distance, beyond, furthest};
 use crate::decoder::{Frame, Run, play, slots_of};
 use crate::lines::hexadecimal;
-use crate::samples::power_of_two;
+use crate::samples::{SILENCE, power_of_two};
 use crate::shrink::print;
 use crate::tabled;
 
@@ -19,6 +19,7 @@ fn impulse(asked: u64, bytes: &[u8], row: usize, band: usize, sample: f64) -> Ru
         frames: vec![Frame {
             line,
             input,
+            noise: SILENCE,
             left,
             right,
             edge: 64,

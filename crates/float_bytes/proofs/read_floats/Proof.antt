@@ -1,0 +1,19 @@
+-- `float_bytes::read_floats` meets its contract. Assumes nothing.
+use borrow.Author.Needs.{needs}
+use borrow.Author.Tests.{eq-eqb, ne-eqb}
+use Rattle.float_bytes.specs.Bytes.{filled}
+use Rattle.float_bytes.proofs.read_floats.Statement.{statement}
+use Rattle.float_bytes.proofs.read_floats.Tie as tie
+
+returns : tie.Need-returns
+unfolding filled
+returns c = simp (ne-eqb _ _ (c .if1 .taken))
+
+returns-2 : tie.Need-returns-2
+unfolding filled
+returns-2 c =
+    let q = c .before .before in
+    simp (eq-eqb _ _ (q .before .before .if1 .left), q .fill .ensures)
+
+pub read-floats-spec : {M : Type 1} → statement M
+read-floats-spec = tie.close (tie.spec (λ c. search needs) returns (λ c κs. search needs) (λ c. search needs) returns-2)

@@ -1,0 +1,24 @@
+-- `lefasumu::lefasumu_start` meets its contract: the length is the test. Assumes nothing.
+use borrow.Author.Needs.{needs}
+use Rattle.lefasumu.proofs.Calls.{start-refused, start-done}
+use Rattle.lefasumu.proofs.lefasumu_start.Statement.{statement}
+use Rattle.lefasumu.proofs.lefasumu_start.Tie as tie
+
+refused : tie.Need-returns
+refused c =
+    let a = c .before .before .before in
+    start-refused (a .args .memory .now) (a .args .slots) _ (c .before .numbers .ensures) (c .if1 .taken)
+
+done : tie.Need-returns-2
+done c =
+    let store = c .before .before in
+    let fresh = store .before .before in
+    let tested = fresh .before in
+    let start = tested .before .before .before in
+    start-done (start .args .memory .now) (start .args .slots) _ _ _ (tested .before .numbers .ensures) (tested .if1 .left) (fresh .fresh .ensures)
+    (store .store .ensures)
+
+pub lefasumu-start-spec : {M : Type 1} → statement M
+lefasumu-start-spec =
+    tie.close
+    (tie.spec (λ c κs. search needs) refused (λ c κs. search needs) (λ c κs. search needs) (λ c. search needs) done)

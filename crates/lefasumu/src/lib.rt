@@ -1,0 +1,50 @@
+// The face for C: a decoder whose state lies in memory that the caller lends, 2,372 doubles. lefasumu.h says the same in C's words.
+ghost use mathlib.Core.Path.{_≡_};
+ghost use Rattle.ps_decoder.specs.Frame.{callOf};
+ghost use Rattle.lefasumu.specs.Face.{started, startedIn, called, calledIn};
+
+// How many numbers the lent memory has.
+#[no_mangle]
+pub extern "C" fn lefasumu_memory() -> usize
+    ensures { λ r. ⌜ r ≡ 2372 ⌝ }
+{
+    ps_memory::numbers()
+}
+
+// Makes memory that of a fresh decoder, whatever it held. Memory of another length is refused.
+#[no_mangle]
+pub extern "C" fn lefasumu_start(memory: &mut [f64], slots: usize) -> u32
+    ensures { λ r. ⌜ started r (now (memory .exit)) ≡ startedIn (now (memory .entry)) slots ⌝ }
+{
+    if memory.len() != ps_memory::numbers() {
+        return 5;
+    }
+    ps_memory::store(ps_state::fresh(slots), memory);
+    0
+}
+
+// A frame. The memory is written only after answer 0.
+#[no_mangle]
+pub extern "C" fn lefasumu_frame(
+    memory: &mut [f64],
+    line: &[u8],
+    input: &[f64],
+    edge: usize,
+    left: &mut [f64],
+    right: &mut [f64],
+) -> u32
+    ensures { λ r. ⌜ called r (now (memory .exit)) (now (left .exit)) (now (right .exit)) ≡ calledIn (now (memory .entry)) (callOf (now (line .entry)) (now (input .entry)) edge (now (left .entry)) (now (right .entry))) ⌝ }
+{
+    if memory.len() != ps_memory::numbers() {
+        return 5;
+    }
+    let played = ps_decoder::frame(ps_memory::load(memory), line, input, edge, left, right);
+    let answer = played.answer;
+    let number = answer.number();
+    if number == 0 {
+        let state = played.state;
+        ps_memory::store(state, memory);
+        return 0;
+    }
+    number as u32
+}

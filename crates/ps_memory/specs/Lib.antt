@@ -1,0 +1,3 @@
+pub mod Packed
+pub mod Place
+pub mod Shape

@@ -1,0 +1,225 @@
+// Holds the decoder to the Rust, over the stream of runs on standard input (oracle/README.md, "Streams"): every answer, every bit of both outputs of an
+// accepted frame, and that any other call leaves both outputs as they were. It says how many calls are so, or which is the first that is not.
+mod bytes;
+mod head;
+mod input;
+mod sides;
+mod text;
+
+use head::Head;
+use ps_decoder::Played;
+use ps_state::PsDecoder;
+use text::Place;
+
+// Runs begun, calls of the last of them that are held, and all calls by what they answered.
+struct Counts {
+    runs: u64,
+    frames: u64,
+    accepted: u64,
+    refused: u64,
+    quiet: u64,
+}
+
+// What is carried from record to record.
+struct Replay {
+    decoder: PsDecoder,
+    counts: Counts,
+    going: bool,
+}
+
+fn more(n: u64) -> u64 {
+    std::num::wrapping_add_u64(n, 1)
+}
+
+// The call that is being played.
+fn place_of(counts: Counts) -> Place {
+    Place {
+        run: std::num::wrapping_sub_u64(counts.runs, 1),
+        frame: counts.frames,
+    }
+}
+
+fn counted(counts: Counts, answer: u8) -> Counts {
+    let mut after = counts;
+    after.frames = more(counts.frames);
+    if answer == 0 {
+        after.accepted = more(counts.accepted);
+    } else if answer == 1 {
+        after.quiet = more(counts.quiet);
+    } else {
+        after.refused = more(counts.refused);
+    }
+    after
+}
+
+fn play(
+    decoder: PsDecoder,
+    head: Head,
+    line: &[u8],
+    input: &[f64],
+    left: &mut [f64],
+    right: &mut [f64],
+) -> Played {
+    let characters = bytes::least(head.line, line.len());
+    let numbers = bytes::least(head.input, input.len());
+    let left_count = bytes::least(head.left, left.len());
+    let right_count = bytes::least(head.right, right.len());
+    ps_decoder::frame(
+        decoder,
+        &line[..characters],
+        &input[..numbers],
+        head.number,
+        &mut left[..left_count],
+        &mut right[..right_count],
+    )
+}
+
+fn play_marked(
+    decoder: PsDecoder,
+    head: Head,
+    line: &[u8],
+    input: &[f64],
+    left: &mut [f64],
+    right: &mut [f64],
+) -> Played {
+    sides::mark(left);
+    sides::mark(right);
+    play(decoder, head, line, input, left, right)
+}
+
+fn call(
+    before: Replay,
+    head: Head,
+    line: &[u8],
+    bytes: &mut [u8],
+    input: &[f64],
+    left: &mut [f64],
+    right: &mut [f64],
+) -> Replay {
+    let decoder = before.decoder;
+    let counts = before.counts;
+    let played = play_marked(decoder, head, line, input, left, right);
+    let answer = played.answer;
+    let number = answer.number();
+    let going = sides::held(place_of(counts), head, number, bytes, left, right);
+    let state = played.state;
+    Replay {
+        decoder: state,
+        counts: counted(counts, number),
+        going: going,
+    }
+}
+
+fn started() -> Replay {
+    Replay {
+        decoder: ps_state::fresh(0),
+        counts: Counts {
+            runs: 0,
+            frames: 0,
+            accepted: 0,
+            refused: 0,
+            quiet: 0,
+        },
+        going: true,
+    }
+}
+
+fn begun(before: Replay, asked: usize) -> Replay {
+    let mut counts = before.counts;
+    counts.runs = more(counts.runs);
+    counts.frames = 0;
+    Replay {
+        decoder: ps_state::fresh(asked),
+        counts: counts,
+        going: true,
+    }
+}
+
+// The stream ends as it should.
+fn ended(before: Replay) -> Replay {
+    let counts = before.counts;
+    text::held(counts.runs, counts.accepted, counts.refused, counts.quiet);
+    let mut after = before;
+    after.going = false;
+    after
+}
+
+fn broken(before: Replay) -> Replay {
+    let counts = before.counts;
+    text::broken(place_of(counts));
+    let mut after = before;
+    after.going = false;
+    after
+}
+
+// A record that is no call: the end, or the start of a run.
+fn step_between(before: Replay, head: Head) -> Replay {
+    if head.kind == 0 {
+        return ended(before);
+    }
+    if head.kind == 1 {
+        return begun(before, head.number);
+    }
+    broken(before)
+}
+
+// A call with what it hands in, which stands behind its head.
+fn step_call(
+    before: Replay,
+    head: Head,
+    line: &mut [u8],
+    bytes: &mut [u8],
+    input: &mut [f64],
+    left: &mut [f64],
+    right: &mut [f64],
+) -> Replay {
+    if !head.fits() {
+        return broken(before);
+    }
+    if !input::load(head, line, bytes, input) {
+        return broken(before);
+    }
+    call(before, head, line, bytes, input, left, right)
+}
+
+// One record of the stream.
+fn step(
+    before: Replay,
+    line: &mut [u8],
+    bytes: &mut [u8],
+    input: &mut [f64],
+    left: &mut [f64],
+    right: &mut [f64],
+) -> Replay {
+    let head = input::next_head(bytes);
+    if head.kind == 2 {
+        return step_call(before, head, line, bytes, input, left, right);
+    }
+    step_between(before, head)
+}
+
+fn main() {
+    let mut line = [0u8; 2048];
+    let mut bytes = [0u8; 67584];
+    let mut input = [0.0; 5632];
+    let mut left = [0.0; 4352];
+    let mut right = [0.0; 4352];
+    let mut replay = started();
+    // A proved loop has to end: no input uses up these turns.
+    let mut turns = u64::MAX;
+    while turns > 0 {
+        replay = step(
+            replay,
+            &mut line,
+            &mut bytes,
+            &mut input,
+            &mut left,
+            &mut right,
+        );
+        if replay.going {
+            turns -= 1;
+        } else {
+            turns = 0;
+        }
+    }
+}
