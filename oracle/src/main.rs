@@ -5,6 +5,7 @@ mod compare;
 mod coverage;
 mod decoder;
 mod fixed;
+mod gamma;
 mod judge;
 mod line;
 mod lines;
@@ -15,6 +16,7 @@ mod runs;
 mod samples;
 mod shrink;
 mod smallest;
+mod stage_runs;
 mod stream;
 mod table_check;
 mod table_data;
@@ -27,8 +29,10 @@ use std::process::ExitCode;
 const USAGE: &str = "usage: oracle tables
        oracle variants [--frames N] [--seed S] [--faint]
        oracle stages [--frames N] [--seed S]
+       oracle stage-runs [--frames N] [--seed S] > STREAM
        oracle shrink --seed RUN_SEED [--faint]
        oracle smallest
+       oracle gamma
        oracle indices < LINES
        oracle maps < ROWS
        oracle lines [--count N] [--seed S]
@@ -71,8 +75,10 @@ fn main() -> ExitCode {
         Some("tables") => table_check::check(),
         Some("variants") => compare::variants(frames, seed, faint),
         Some("stages") => compare::stages(frames, seed),
+        Some("stage-runs") => stage_runs::print(option(&words, "--frames", 2_000) as usize, seed),
         Some("shrink") => shrink::shrink(seed, faint),
         Some("smallest") => smallest::search(),
+        Some("gamma") => gamma::measure(),
         Some("indices") => listing::indices(),
         Some("maps") => listing::maps(),
         Some("lines") => listing::print_lines(count, seed),

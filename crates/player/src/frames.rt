@@ -1,0 +1,194 @@
+// Frames: what a run carries from line to line, and what is done for each.
+use crate::arguments;
+use crate::files;
+use crate::lines;
+use crate::report;
+use crate::report::Tally;
+use crate::rows;
+use ps_decoder::Played;
+use ps_state::PsDecoder;
+ghost use mathlib.Core.Path.{_≡_};
+ghost use Prim.Native.Nat.{_≤_};
+ghost use lib.ListN.{length};
+
+pub struct Streams {
+    pub lines: i32,
+    pub samples: i32,
+    pub left: i32,
+    pub right: i32,
+}
+
+// What is carried from frame to frame.
+pub struct Run {
+    pub streams: Streams,
+    pub asked: usize,
+    pub edge: usize,
+    pub decoder: PsDecoder,
+    pub tally: Tally,
+    // How much is held of the line that has begun, and of the next frame's rows.
+    pub used: usize,
+    pub ahead: usize,
+    // The rows that the samples had, and those that the lines have needed.
+    pub rows: u64,
+    pub needed: u64,
+    // A file failed, or the samples ended: no more is played.
+    pub failed: bool,
+    pub short: bool,
+}
+
+pub fn start(streams: Streams, asked: usize, edge: usize) -> Run {
+    Run {
+        streams: streams,
+        asked: asked,
+        edge: edge,
+        decoder: ps_state::fresh(asked),
+        tally: Tally {
+            frames: 0,
+            held: 0,
+            quiet: 0,
+            refused: 0,
+        },
+        used: 0,
+        ahead: 0,
+        rows: 0,
+        needed: 0,
+        failed: false,
+        short: false,
+    }
+}
+
+// Whether an accepted line leaves what is in force: it is empty, or its byte 3 says no envelopes.
+fn holds(line: &[u8]) -> bool {
+    if line.len() < 8 {
+        return true;
+    }
+    (line[6] == b'0') & (line[7] == b'0')
+}
+
+// A frame's call on the first rows of lent memory.
+fn call(
+    decoder: PsDecoder,
+    edge: usize,
+    line: &[u8],
+    input: &[f64],
+    slots: usize,
+    left: &mut [f64],
+    right: &mut [f64],
+) -> Played
+    requires { ⌜ (slots ≤ 32) × (length (now input) ≡ 4864) × (length (now left) ≡ 4096) × (length (now right) ≡ 4096) ⌝ }
+{
+    let numbers = slots * 128;
+    let heard = numbers + 768;
+    ps_decoder::frame(
+        decoder,
+        line,
+        &input[..heard],
+        edge,
+        &mut left[..numbers],
+        &mut right[..numbers],
+    )
+}
+
+// Whether both outputs took a frame's rows.
+fn write_frame(streams: Streams, slots: usize, left: &[f64], right: &[f64]) -> bool
+    requires { ⌜ (slots ≤ 32) × (length (now left) ≡ 4096) × (length (now right) ≡ 4096) ⌝ }
+{
+    let numbers = slots * 128;
+    if rows::write(files::LEFT, streams.left, &left[..numbers]) {
+        return rows::write(files::RIGHT, streams.right, &right[..numbers]);
+    }
+    false
+}
+
+// A frame whose rows are there. A call that is not answered with Done leaves its outputs as they were, so that silence is written and the outputs keep time.
+fn play_frame(before: Run, line: &[u8], input: &mut [f64], slots: usize) -> Run
+    requires { ⌜ (slots ≤ 32) × (length (now input) ≡ 4864) ⌝ }
+{
+    let mut left = [0.0; 4096];
+    let mut right = [0.0; 4096];
+    let decoder = before.decoder;
+    let played = call(
+        decoder,
+        before.edge,
+        line,
+        input,
+        slots,
+        &mut left,
+        &mut right,
+    );
+    let answer = played.answer;
+    let state = played.state;
+    let tally = before.tally;
+    report::frame(tally.frames, answer);
+    let streams = before.streams;
+    let mut after = before;
+    after.decoder = state;
+    after.tally = report::tallied(tally, answer, holds(line));
+    after.failed = !write_frame(streams, slots, &left, &right);
+    rows::carry(input, slots);
+    after
+}
+
+// A line more: a frame more is counted, and the rows that it needs.
+fn begun(before: Run, slots: usize) -> Run {
+    let mut tally = before.tally;
+    tally.frames = report::counted(tally.frames);
+    let mut after = before;
+    after.tally = tally;
+    after.needed = std::num::wrapping_add_u64(before.needed, slots as u64);
+    after.used = 0;
+    after
+}
+
+// One cue line, without its newline. `input` begins with the rows that the frame before looked ahead at.
+fn play_line(before: Run, line: &[u8], input: &mut [f64]) -> Run
+    requires { ⌜ length (now input) ≡ 4864 ⌝ }
+{
+    let slots = borders::slots(before.asked);
+    let ahead = arguments::least(before.ahead, 6);
+    let mut run = begun(before, slots);
+    if run.failed | run.short {
+        return run;
+    }
+    let streams = run.streams;
+    let got = rows::fetch(streams.samples, slots, ahead, input);
+    run.rows = std::num::wrapping_add_u64(run.rows, got.rows as u64);
+    if got.failed {
+        run.failed = true;
+        return run;
+    }
+    let there = ahead + got.rows;
+    if there < slots {
+        run.short = true;
+        return run;
+    }
+    run.ahead = there - slots;
+    play_frame(run, line, input, slots)
+}
+
+// The line that has begun is complete.
+pub fn end_line(before: Run, line: &[u8], input: &mut [f64]) -> Run
+    requires { ⌜ length (now input) ≡ 4864 ⌝ }
+{
+    let used = arguments::least(before.used, line.len());
+    play_line(before, &line[..used], input)
+}
+
+// A piece of the file of lines: the lines that end in it, and the beginning of the next.
+pub fn play_piece(before: Run, line: &mut [u8], input: &mut [f64], piece: &[u8]) -> Run
+    requires { ⌜ length (now input) ≡ 4864 ⌝ }
+{
+    let mut run = before;
+    let mut from = 0;
+    while from < piece.len() {
+        let end = lines::line_end(piece, from);
+        run.used = lines::hold(line, run.used, &piece[from..end]);
+        if end < piece.len() {
+            from = end + 1;
+            run = end_line(run, line, input);
+        } else {
+            from = end;
+        }
+    }
+    run
+}

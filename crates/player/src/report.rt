@@ -1,0 +1,154 @@
+// What the program says.
+use answer::Answer;
+use libc::STDERR_FILENO;
+use libc::STDOUT_FILENO;
+
+// Frames so far: how many of them held what was in force, how many were quiet, and how many were refused.
+pub struct Tally {
+    pub frames: u64,
+    pub held: u64,
+    pub quiet: u64,
+    pub refused: u64,
+}
+
+pub fn counted(before: u64) -> u64 {
+    std::num::wrapping_add_u64(before, 1)
+}
+
+pub fn tallied(before: Tally, answer: Answer, held: bool) -> Tally {
+    let mut after = before;
+    match answer {
+        Answer::Done => {
+            if held {
+                after.held = counted(before.held);
+            }
+        }
+        Answer::Quiet => after.quiet = counted(before.quiet),
+        _ => after.refused = counted(before.refused),
+    }
+    after
+}
+
+fn say(words: &[u8]) {
+    io::write_all(STDOUT_FILENO, words);
+}
+
+fn say_number(n: u64) {
+    io::print_decimal(STDOUT_FILENO, n);
+}
+
+fn meaning(answer: Answer) {
+    match answer {
+        Answer::Done => say(b"done\n"),
+        Answer::Quiet => say(b"quiet: an empty line before any configuration\n"),
+        Answer::Character => say(b"a character outside 0-9 a-f\n"),
+        Answer::Length => say(b"the line's length\n"),
+        Answer::Field => say(b"a field out of range\n"),
+        Answer::Buffers => say(b"the buffers' lengths\n"),
+        Answer::Sample => say(b"a sample not finite, or above 1048576 in magnitude\n"),
+    }
+}
+
+// A frame that was not played: its number, the answer, and what that means.
+pub fn frame(number: u64, answer: Answer) {
+    if let Answer::Done = answer {
+        return;
+    }
+    say_number(number);
+    say(b" ");
+    say_number(answer.number() as u64);
+    say(b" ");
+    meaning(answer);
+}
+
+// The last line of a run that went through.
+pub fn summary(tally: Tally) {
+    let unplayed = std::num::wrapping_add_u64(tally.quiet, tally.refused);
+    say_number(tally.frames);
+    say(b" frames: ");
+    say_number(std::num::wrapping_sub_u64(tally.frames, unplayed));
+    say(b" played, ");
+    say_number(tally.held);
+    say(b" of them held; ");
+    say_number(tally.quiet);
+    say(b" quiet, ");
+    say_number(tally.refused);
+    say(b" refused\n");
+}
+
+// The file of samples ended within a frame's own rows.
+pub fn short(rows: u64, needed: u64) {
+    io::write_all(STDERR_FILENO, b"lefasumu: ");
+    let mut name = io::buffer();
+    let used = os::arg(crate::files::SAMPLES, &mut name);
+    io::write_all(STDERR_FILENO, &name[..used]);
+    io::write_all(STDERR_FILENO, b": too short: it has ");
+    io::print_decimal(STDERR_FILENO, rows);
+    io::write_all(STDERR_FILENO, b" rows, and the lines need ");
+    io::print_decimal(STDERR_FILENO, needed);
+    io::write_all(STDERR_FILENO, b"\n");
+}
+
+fn describe_arguments(to: i32) {
+    io::write_all(
+        to,
+        b"  SLOTS        slots of a frame, a number; below 6 counts as 6, above 32 as 32\n",
+    );
+    io::write_all(
+        to,
+        b"  EDGE         the spectrum's edge in QMF bands, a number; above 64 counts as 64\n",
+    );
+    io::write_all(
+        to,
+        b"  LINES        file of cue lines, one for each frame\n",
+    );
+    io::write_all(
+        to,
+        b"  SAMPLES      file of rows, one for each slot: 64 complex numbers,\n",
+    );
+    io::write_all(
+        to,
+        b"               re then im, 64-bit floats, lowest byte first\n",
+    );
+    io::write_all(
+        to,
+        b"  LEFT, RIGHT  files to write, in rows like those of SAMPLES\n",
+    );
+}
+
+fn describe_frames(to: i32) {
+    io::write_all(
+        to,
+        b"A frame hears its own SLOTS rows and the six rows ahead of them, which are\n",
+    );
+    io::write_all(
+        to,
+        b"the next frame's first. Where SAMPLES ends within the six rows ahead, those\n",
+    );
+    io::write_all(
+        to,
+        b"that are missing count as silence; where it ends within a frame's own rows,\n",
+    );
+    io::write_all(
+        to,
+        b"it is too short: that frame and those after it are not played. A row that\n",
+    );
+    io::write_all(to, b"the end of the file cuts counts as missing.\n");
+    io::write_all(
+        to,
+        b"A frame that is quiet or refused is named, with its number from 1, the\n",
+    );
+    io::write_all(
+        to,
+        b"answer and what it means. To keep time its rows are silence in both outputs.\n",
+    );
+}
+
+pub fn usage(to: i32) {
+    io::write_all(
+        to,
+        b"usage: lefasumu play SLOTS EDGE LINES SAMPLES LEFT RIGHT\n",
+    );
+    describe_arguments(to);
+    describe_frames(to);
+}

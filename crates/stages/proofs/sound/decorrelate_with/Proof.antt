@@ -1,0 +1,20 @@
+-- `stages::sound::decorrelate_with` is safe and ends: each channel has its run. Assumes nothing.
+use borrow.Author.Needs.{needs}
+use mathlib.Core.Path.{_≡_}
+use Prim.Native.Nat.{_≤_, _-_}
+use lib.ListN.{length}
+use Rattle.stages.proofs.sound.decorrelate_with.Statement.{statement}
+use Rattle.stages.proofs.sound.decorrelate_with.Tie as tie
+
+abbrev Inv-loop : tie.InvT-loop
+Inv-loop table layout delays₀ long₀ short₀ samples slots out₀ channels k₀ delays long short out k = (k ≤ channels) × ((channels ≤ 91) × (length out ≡ 5824))
+
+abbrev μ-loop : tie.MeasureT-loop
+μ-loop table layout delays₀ long₀ short₀ samples slots out₀ channels k₀ delays long short out k = channels - k
+
+pub decorrelate-with-spec : {M : Type 1} → statement M
+decorrelate-with-spec =
+    tie.close
+    (tie.spec Inv-loop μ-loop (λ c κs. search needs) (λ c. search needs) (λ c κs. search needs) (λ c. search needs) (λ c. search needs)
+    (λ c. search needs) (λ c. search needs) (λ c. search needs) (λ c. search needs) (λ c κs. search needs) (λ c. search needs) (λ c. search needs)
+    (λ c. search needs) (λ c. search needs) (λ c. search needs))
