@@ -4,13 +4,6 @@ use super::marks;
 use super::scene;
 use layout::Layout;
 
-// The indices of one kind: how many a row has, how many values there are, and which of them, from the lowest, is 0.
-struct Kind {
-    count: usize,
-    values: u64,
-    zero: u64,
-}
-
 // Each function puts its text at a place, as far as there is room, and answers the place after it.
 fn put_digit(out: &mut [u8], at: usize, digit: u8) -> usize {
     if at < out.len() {
@@ -39,6 +32,11 @@ fn put_delta(out: &mut [u8], at: usize, value: u64, base: u64) -> usize {
     put_byte(out, at, ((256 + value % 32 - base % 32) % 256) as u8)
 }
 
+// Which of the values of an index, from the lowest, is 0.
+fn zero_of(values: u64) -> u64 {
+    if values == 8 { 0 } else { values / 2 }
+}
+
 // A row by frequency (0) has differences from band to band, so that each band gets the value that is drawn for it. A row by time (1) adds what is drawn
 // to the band's own index before.
 fn base_after(time: u8, value: u64, zero: u64) -> u64 {
@@ -48,21 +46,23 @@ fn base_after(time: u8, value: u64, zero: u64) -> u64 {
 fn put_row(
     out: &mut [u8],
     at: usize,
-    kind: Kind,
+    count: usize,
+    values: u64,
     time: u8,
     bands: u64,
     run: u64,
     seed: u64,
 ) -> usize {
+    let zero = zero_of(values);
     let mut place = put_byte(out, at, time);
     let mut x = seed;
-    let mut base = kind.zero;
+    let mut base = zero;
     let mut band = 0;
-    while band < kind.count {
+    while band < count {
         let drawn = chance::drawn(x, run, marks::marked(bands, band));
-        let value = chance::below(drawn, kind.values);
+        let value = chance::below(drawn, values);
         place = put_delta(out, place, value, base);
-        base = base_after(time, value, kind.zero);
+        base = base_after(time, value, zero);
         x = chance::step(x);
         band += 1;
     }
@@ -73,17 +73,21 @@ fn put_row(
 fn put_kind(
     out: &mut [u8],
     at: usize,
-    kind: Kind,
+    count: usize,
+    values: u64,
+    first: u8,
     envelopes: u8,
     bands: u64,
     run: u64,
     seed: u64,
 ) -> usize {
     let mut place = at;
+    let mut time = first;
     let mut row = seed;
     let mut envelope = 0;
     while envelope < envelopes {
-        place = put_row(out, place, kind, envelope % 2, bands, run, row);
+        place = put_row(out, place, count, values, time, bands, run, row);
+        time = 1 - time % 2;
         row = chance::branch(row, 1);
         envelope += 1;
     }
@@ -103,40 +107,35 @@ fn put_borders(out: &mut [u8], at: usize, borders: u8, slots: usize, seed: u64) 
     place
 }
 
-// The mode of 20 or of 34 indices, or the same three further on: the fine quantiser, or procedure Rb.
-fn mode(layout: Layout, further: bool) -> u8 {
-    match layout {
-        Layout::Bands20 => if further { 4 } else { 1 },
-        Layout::Bands34 => if further { 5 } else { 2 },
-    }
-}
-
+// The first byte, the modes of 20 or of 34 indices, and the envelopes.
 fn put_head(out: &mut [u8], layout: Layout, frame: u64) -> usize {
-    let iid = mode(layout, scene::fine(frame));
-    let icc = mode(layout, scene::rb(frame));
-    let place = put_two(out, 0, scene::flags_of(frame), iid);
-    put_two(out, place, icc, scene::envelopes_of(frame))
+    let mode = match layout {
+        Layout::Bands20 => 1,
+        Layout::Bands34 => 2,
+    };
+    let iid = mode % 3 + scene::line_byte(frame, scene::FINE) % 4;
+    let icc = mode % 3 + scene::line_byte(frame, scene::RB) % 4;
+    let place = put_two(out, 0, scene::line_byte(frame, scene::FLAGS), iid);
+    put_two(out, place, icc, scene::line_byte(frame, scene::ENVELOPES))
 }
 
-// The lowest bands alone have phases.
-fn count_of(layout: Layout, phase: bool) -> usize {
+// How many indices a row of a kind has: the lowest bands alone have phases.
+fn count_of(layout: Layout, kind: u8) -> usize {
     match layout {
-        Layout::Bands20 => if phase { 11 } else { 20 },
-        Layout::Bands34 => if phase { 17 } else { 34 },
+        Layout::Bands20 => if kind < 2 { 20 } else { 11 },
+        Layout::Bands34 => if kind < 2 { 34 } else { 17 },
     }
 }
 
-// IID is kind 0, coarse or fine; then come ICC, IPD and OPD.
-fn kind_of(layout: Layout, order: u64, fine: bool) -> Kind {
-    let values = if fine { 31 } else { 15 };
-    Kind {
-        count: count_of(layout, 2 <= order),
-        values: if order == 0 { values } else { 8 },
-        zero: if order == 0 { values / 2 } else { 0 },
+// How many values an index has: IID is kind 0, coarse or fine; then come ICC, IPD and OPD.
+fn values_of(kind: u8, fine: u8) -> u64 {
+    if 0 < kind {
+        return 8;
     }
+    if fine == 0 { 15 } else { 31 }
 }
 
-// The rows of all kinds.
+// The rows of all kinds. In the odd frames the first goes by time, and starts from a row of the frame before.
 fn put_kinds(
     out: &mut [u8],
     at: usize,
@@ -146,17 +145,19 @@ fn put_kinds(
     run: u64,
     seed: u64,
 ) -> usize {
-    let kinds = scene::kinds_of(frame);
-    let envelopes = scene::envelopes_of(frame);
-    let fine = scene::fine(frame);
+    let kinds = scene::line_byte(frame, scene::KINDS);
+    let envelopes = scene::line_byte(frame, scene::ENVELOPES);
+    let fine = scene::line_byte(frame, scene::FINE);
+    let first = (frame % 2) as u8;
     let mut place = at;
     let mut row = seed;
-    let mut order = 0;
-    while order < kinds {
-        let kind = kind_of(layout, order, fine);
-        place = put_kind(out, place, kind, envelopes, bands, run, row);
+    let mut kind = 0;
+    while kind < kinds {
+        let count = count_of(layout, kind);
+        let values = values_of(kind, fine);
+        place = put_kind(out, place, count, values, first, envelopes, bands, run, row);
         row = chance::branch(row, 2);
-        order += 1;
+        kind += 1;
     }
     place
 }
@@ -171,10 +172,11 @@ pub fn put_line(
     run: u64,
     seed: u64,
 ) -> usize {
-    if scene::empty(frame) {
+    if scene::line_byte(frame, scene::FLAGS) == 0 {
         return 0;
     }
     let head = put_head(out, layout, frame);
-    let place = put_borders(out, head, scene::borders_of(frame), slots, seed);
+    let borders = scene::line_byte(frame, scene::BORDERS);
+    let place = put_borders(out, head, borders, slots, seed);
     put_kinds(out, place, layout, frame, bands, run, seed)
 }

@@ -60,7 +60,7 @@ fn say_counts(unit: &[u8], numbers: u64, different: u64, free: u64) {
 // A pair that does not stand: a number that differs, or a frame that was not accepted, or free QMF bands that came out alike, by which the comparison
 // would tell nothing.
 fn say_fault(pair: Pair) {
-    if pair.first < runs::BOTH {
+    if pair.accepted == 2 * scene::FRAMES && pair.first < runs::BOTH {
         say_difference(pair.first);
         return;
     }

@@ -23,57 +23,32 @@ pub fn with(set: u64, band: usize, wanted: bool) -> u64 {
     }
 }
 
-// What a table has at a place; past its end, the place less a shift.
-fn lookup(table: &[u8], at: usize, shift: usize) -> usize {
-    if at < table.len() {
-        return (table[at] % 64) as usize;
-    }
-    if at < shift { 0 } else { at - shift }
-}
-
-// The QMF bands of the first hybrid channels (Figures 8.20 and 8.22).
-const COLUMNS_20: [u8; 10] = [0, 0, 0, 0, 0, 0, 1, 1, 2, 2];
-
-const COLUMNS_34: [u8; 32] = [
-    0,
-    0,
-    0,
-    0,
-    0,
-    0,
-    0,
-    0,
-    0,
-    0,
-    0,
-    0,
-    1,
-    1,
-    1,
-    1,
-    1,
-    1,
-    1,
-    1,
-    2,
-    2,
-    2,
-    2,
-    3,
-    3,
-    3,
-    3,
-    4,
-    4,
-    4,
-    4,
-];
-
-// The QMF band of a hybrid channel.
+// The QMF band of a hybrid channel (Figures 8.20 and 8.22).
 fn column(layout: Layout, channel: usize) -> usize {
     match layout {
-        Layout::Bands20 => lookup(&COLUMNS_20, channel, 7),
-        Layout::Bands34 => lookup(&COLUMNS_34, channel, 27),
+        Layout::Bands20 => match channel {
+            0..=5 => 0,
+            6..=7 => 1,
+            8..=9 => 2,
+            _ => channel - 7,
+        },
+        Layout::Bands34 => match channel {
+            0..=11 => 0,
+            12..=19 => 1,
+            20..=23 => 2,
+            24..=27 => 3,
+            28..=31 => 4,
+            _ => channel - 27,
+        },
+    }
+}
+
+// The stereo band of a hybrid channel, by a lent map.
+fn band_of(map: &[u8], channel: usize) -> usize {
+    if channel < map.len() {
+        (map[channel] % 64) as usize
+    } else {
+        0
     }
 }
 
@@ -85,7 +60,7 @@ fn bands_in(layout: Layout, band: usize) -> u64 {
     let mut channel = 0;
     while channel < channels {
         let inside = column(layout, channel) == band;
-        bands = with(bands, lookup(&map, channel, 0), inside);
+        bands = with(bands, band_of(&map, channel), inside);
         channel += 1;
     }
     bands
@@ -109,7 +84,7 @@ pub fn columns_of(layout: Layout, bands: u64) -> Columns {
     let mut free = 0;
     let mut channel = 0;
     while channel < channels {
-        let inside = marked(bands, lookup(&map, channel, 0));
+        let inside = marked(bands, band_of(&map, channel));
         let at = column(layout, channel);
         agreed = with(agreed, at, inside);
         free = with(free, at, !inside);

@@ -3,6 +3,37 @@ ghost use Prim.Native.Nat.{_≤_};
 
 pub const FRAMES: u64 = 6;
 
+pub const FLAGS: usize = 0;
+
+pub const FINE: usize = 1;
+
+pub const RB: usize = 2;
+
+pub const ENVELOPES: usize = 3;
+
+pub const BORDERS: usize = 4;
+
+pub const KINDS: usize = 5;
+
+// What a frame's line says: its first byte (IID and ICC are always there), 3 for the fine quantiser, 3 for procedure Rb, its envelopes, how many of these have
+// a border of their own, and its kinds. Frame 2 holds, and frame 3 has an empty line.
+fn line_of(frame: u64) -> [u8; 6] {
+    match frame {
+        0 => [11, 0, 0, 4, 0, 4],
+        1 => [7, 0, 3, 3, 3, 2],
+        2 => [11, 0, 0, 0, 0, 4],
+        4 => [11, 3, 0, 2, 0, 4],
+        5 => [15, 3, 3, 1, 1, 4],
+        _ => [0, 0, 0, 0, 0, 0],
+    }
+}
+
+// One of the six.
+pub fn line_byte(frame: u64, which: usize) -> u8 {
+    let bytes = line_of(frame);
+    bytes[which % 6]
+}
+
 // A few slots, and now and then a full frame.
 pub fn slots_of(pair: usize) -> usize
     ensures { λ r. ⌜ r ≤ 32 ⌝ }
@@ -17,53 +48,4 @@ pub fn edge_of(pair: usize, frame: u64) -> usize {
         5 => 63 - pair % 64,
         _ => 64,
     }
-}
-
-pub fn empty(frame: u64) -> bool {
-    frame == 3
-}
-
-// Frame 2 holds.
-pub fn envelopes_of(frame: u64) -> u8 {
-    match frame {
-        0 => 4,
-        1 => 3,
-        4 => 2,
-        5 => 1,
-        _ => 0,
-    }
-}
-
-// How many envelopes have a border of their own, as bit 2 of the flags says.
-pub fn borders_of(frame: u64) -> u8 {
-    match frame {
-        1 => 3,
-        5 => 1,
-        _ => 0,
-    }
-}
-
-// The first byte of the line: IID and ICC are always there, phase is not in frame 1.
-pub fn flags_of(frame: u64) -> u8 {
-    match frame {
-        1 => 7,
-        5 => 15,
-        _ => 11,
-    }
-}
-
-// How many kinds a line has.
-pub fn kinds_of(frame: u64) -> u64
-    ensures { λ r. ⌜ r ≤ 4 ⌝ }
-{
-    if frame == 1 { 2 } else { 4 }
-}
-
-// The fine quantiser of IID, and procedure Rb.
-pub fn fine(frame: u64) -> bool {
-    4 <= frame
-}
-
-pub fn rb(frame: u64) -> bool {
-    frame % 2 == 1
 }

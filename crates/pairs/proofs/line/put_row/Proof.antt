@@ -7,14 +7,14 @@ use Rattle.pairs.proofs.line.put_row.Statement.{statement}
 use Rattle.pairs.proofs.line.put_row.Tie as tie
 
 abbrev Inv-loop : tie.InvT-loop
-Inv-loop out₀ at kind time bands run seed place₀ x₀ base₀ band₀ out place x base band = (band ≤ kind .count) × (length out ≡ length out₀)
+Inv-loop out₀ at count values time bands run seed zero place₀ x₀ base₀ band₀ out place x base band = (band ≤ count) × (length out ≡ length out₀)
 
 abbrev μ-loop : tie.MeasureT-loop
-μ-loop out₀ at kind time bands run seed place₀ x₀ base₀ band₀ out place x base band = kind .count - band
+μ-loop out₀ at count values time bands run seed zero place₀ x₀ base₀ band₀ out place x base band = count - band
 
 pub put-row-spec : {M : Type 1} → statement M
 put-row-spec =
     tie.close
-    (tie.spec Inv-loop μ-loop (λ c κs. search needs) (λ c. search needs) (λ c κs. search needs) (λ c κs. search needs) (λ c κs. search needs)
-    (λ c κs. search needs) (λ c κs. search needs) (λ c κs. search needs) (λ c. search needs) (λ c. search needs) (λ c. search needs)
-    (λ c. search needs) (λ c. search needs))
+    (tie.spec Inv-loop μ-loop (λ c κs. search needs) (λ c κs. search needs) (λ c. search needs) (λ c κs. search needs) (λ c κs. search needs)
+    (λ c κs. search needs) (λ c κs. search needs) (λ c κs. search needs) (λ c κs. search needs) (λ c. search needs) (λ c. search needs)
+    (λ c. search needs) (λ c. search needs) (λ c. search needs))
