@@ -4,35 +4,20 @@
 mod bits;
 #[path = "../oracle/src/judge.rs"]
 mod judge;
+#[path = "../examples/rust/lefasumu.rs"]
+mod lefasumu;
 #[path = "../oracle/src/line.rs"]
 mod line;
 #[path = "../target/oracle/src/untouched/mod.rs"]
 mod untouched;
 
+use lefasumu::Decoder;
 use std::alloc::{GlobalAlloc, Layout, System};
 use std::hint::black_box;
 use std::sync::atomic::{AtomicU64, Ordering};
 use std::time::{Duration, Instant};
 use untouched::ps_decoder::PsDecoder;
 use untouched::sbr_qmf::Complex;
-
-unsafe extern "C" {
-    fn lefasumu_memory() -> usize;
-    fn lefasumu_start(memory: *mut f64, numbers: usize, slots: usize) -> u32;
-    fn lefasumu_frame(
-        memory: *mut f64,
-        numbers: usize,
-        line: *const u8,
-        characters: usize,
-        input: *const f64,
-        input_numbers: usize,
-        edge: usize,
-        left: *mut f64,
-        left_numbers: usize,
-        right: *mut f64,
-        right_numbers: usize,
-    ) -> u32;
-}
 
 static ALLOCATIONS: AtomicU64 = AtomicU64::new(0);
 
@@ -87,38 +72,6 @@ fn hexadecimal(bytes: &[u8]) -> Vec<u8> {
     bytes.iter().flat_map(|byte| format!("{byte:02x}").into_bytes()).collect()
 }
 
-struct Ours {
-    memory: Vec<f64>,
-    left: Vec<f64>,
-    right: Vec<f64>,
-}
-
-impl Ours {
-    fn start() -> Self {
-        let mut memory = vec![0.0; unsafe { lefasumu_memory() }];
-        assert_eq!(unsafe { lefasumu_start(memory.as_mut_ptr(), memory.len(), SLOTS) }, 0);
-        Ours { memory, left: vec![0.0; SLOTS * 128], right: vec![0.0; SLOTS * 128] }
-    }
-
-    fn frame(&mut self, line: &[u8], input: &[f64]) -> u32 {
-        unsafe {
-            lefasumu_frame(
-                self.memory.as_mut_ptr(),
-                self.memory.len(),
-                line.as_ptr(),
-                line.len(),
-                input.as_ptr(),
-                input.len(),
-                EDGE,
-                self.left.as_mut_ptr(),
-                self.left.len(),
-                self.right.as_mut_ptr(),
-                self.right.len(),
-            )
-        }
-    }
-}
-
 /// The shortest time of a call in many rounds of a few calls, and allocations of a call.
 fn measured(seconds: f64, mut call: impl FnMut()) -> (Duration, u64) {
     let end = Instant::now() + Duration::from_secs_f64(seconds);
@@ -143,11 +96,11 @@ fn compare(name: &str, first: &[u8], bytes: Option<&[u8]>, seconds: f64, chance:
         .map(|row| std::array::from_fn(|band| Complex::new(row[2 * band], row[2 * band + 1])))
         .collect();
     let line = bytes.map(hexadecimal).unwrap_or_default();
-    let mut ours = Ours::start();
+    let mut ours = Decoder::start(SLOTS);
     let mut theirs = PsDecoder::new_slots(SLOTS);
-    assert_eq!(ours.frame(&hexadecimal(first), &input), 0);
+    assert_eq!(ours.frame(&hexadecimal(first), &input, EDGE), 0);
     theirs.process(Some(first), &rows, EDGE).expect("accepted");
-    let (own, own_heap) = measured(seconds, || assert_eq!(black_box(ours.frame(&line, &input)), 0));
+    let (own, own_heap) = measured(seconds, || assert_eq!(black_box(ours.frame(&line, &input, EDGE)), 0));
     let (rust, rust_heap) = measured(seconds, || {
         black_box(theirs.process(bytes, &rows, EDGE).expect("accepted"));
     });
@@ -166,14 +119,14 @@ fn deepest_stack(line: Vec<u8>) -> usize {
     const ROOM: usize = 1 << 20;
     const PAINT: u8 = 0xa5;
     let thread = std::thread::Builder::new().stack_size(2 * ROOM).spawn(move || {
-        let mut ours = Ours::start();
+        let mut ours = Decoder::start(SLOTS);
         let input = vec![0.25; (SLOTS + 6) * 128];
-        assert_eq!(ours.frame(&line, &input), 0);
+        assert_eq!(ours.frame(&line, &input, EDGE), 0);
         let here = 0u8;
         let top = std::ptr::addr_of!(here) as usize - 4096;
         let bottom = top - ROOM;
         unsafe { std::ptr::write_bytes(bottom as *mut u8, PAINT, ROOM) };
-        assert_eq!(ours.frame(&line, &input), 0);
+        assert_eq!(ours.frame(&line, &input, EDGE), 0);
         let untouched = (bottom..top).take_while(|place| unsafe { *(*place as *const u8) } == PAINT).count();
         ROOM - untouched + 4096
     });
@@ -188,7 +141,7 @@ fn main() {
         compare(&format!("{bands} bands, 4 envelopes, phase"), &line, Some(&line), seconds, &mut chance);
         compare(&format!("{bands} bands, held by an empty line"), &line, None, seconds, &mut chance);
     }
-    let numbers = unsafe { lefasumu_memory() };
+    let numbers = Decoder::start(SLOTS).memory.len();
     println!("memory of a decoder: {numbers} numbers, {} bytes", numbers * 8);
     println!("deepest stack of a frame call, 34 bands: {} bytes", deepest_stack(hexadecimal(&full_line(2, &mut chance))));
 }

@@ -93,13 +93,16 @@ headerOf (Refused a) = noHeader
 abbrev pub modesOf : Header → Modes
 modesOf h = record { fine = leb 3 (h .config .iid .mode); rb = leb 3 (h .config .icc .mode); phase = h .phase }
 
+-- an empty line leaves the configuration in force, and so the layout
+abbrev pub layoutIn : Layout → Header → Layout
+layoutIn old h = cond (h .cued) (layoutOf (h .config)) old
+
 module _ (s : Playing) (c : Call) where
   abbrev pub header : Header
   header = headerOf (resolved s c .line)
 
-  -- an empty line leaves the configuration in force, and so the layout
   abbrev pub layout : Layout
-  layout = cond (header .cued) (layoutOf (header .config)) (s .core .layout)
+  layout = layoutIn (s .core .layout) header
 
   abbrev pub head : Head
   head =

@@ -9,13 +9,14 @@ use borrow.Author.Tests.{ltb-true, eq-eqb}
 use lib.Dec.{ltb}
 use lib.Ieee.{Float, nan}
 use lib.ListN.{length, getD}
+use Rattle.calls.proofs.Relation.{channel-itself}
+use Rattle.calls.proofs.Rows.{rows-same, synthesised-same}
 use Rattle.complex.specs.declared.Complex.{Complex}
 use Rattle.complex.specs.Operations.{scaled}
 use Rattle.layout.specs.declared.Layout.{Layout}
 use Rattle.layout.specs.declared.Layout.the-variants.{Bands20, Bands34}
 use Rattle.layout.specs.Numbers.{bandsOf, channelsOf, allPassOf, shortDelayOf}
 use Rattle.lists.specs.Part.{part}
-use Rattle.lists.proofs.Rows.{rows-same}
 use Rattle.planar.specs.Frame.{sampleAt, qmfRows}
 use Rattle.planar.specs.Window.{imageOf}
 use Rattle.ps_channels.specs.Channels as channels
@@ -23,6 +24,7 @@ use Rattle.ps_decorr.specs.Channels.{channelIn, delaysWith, longWith, shortWith
 use Rattle.ps_decorr_allpass.specs.Memory.{memoryOf}
 use Rattle.ps_map.specs.Bands.{bandOf, conjugatedOf}
 use Rattle.ps_map.proofs.Bands.{band-small}
+use Rattle.ps_state.proofs.Alike.{delays-alike, long-alike, short-alike}
 use Rattle.ps_stereo_slots.specs.Slots.{bordersOf, borderMatrix}
 use Rattle.standard.specs.declared.Matrix.{Matrix}
 use Rattle.standard.specs.Channel.{Channel, chainOf, channelAt, channelOutput}
@@ -31,7 +33,6 @@ use Rattle.standard.specs.Hybrid.{synthesised}
 use Rattle.standard.specs.Interpolation.{matrixIn}
 use Rattle.standard.specs.Mixing.{leftOf, rightOf}
 use Rattle.standard.proofs.Frames.{channel-same}
-use Rattle.ps_decoder.proofs.Synthesis.{side-rows}
 
 -- what the flat lists hold
 pub record Flat (f : Frame) (s : Core) (places : List ℕ) (count : ℕ) (samples gains rows delays long short : List Float) : Type 0 where
@@ -40,42 +41,21 @@ pub record Flat (f : Frame) (s : Core) (places : List ℕ) (count : ℕ) (sample
   pub matrix : (b n : ℕ) → b < bandsOf (f .head .layout) → matrixIn (bordersOf places count) (borderMatrix rows b) n ≡ matrixThen f s b n
   pub channel : (k : ℕ) → channelIn (f .head .layout) delays long short k ≡ s .channel k
 
--- ---- the channels that a memory holds
+-- ---- sides and channels that agree on those of a layout
 
-all-pass-inside : (l : Layout) → allPassOf l ≤ channelsOf l
-all-pass-inside Bands20 = omega arith
-all-pass-inside Bands34 = omega arith
-
-long-inside : (l : Layout) → allPassOf l + 12 ≤ channelsOf l
-long-inside Bands20 = omega arith
-long-inside Bands34 = omega arith
-
-short-inside : (l : Layout) → shortDelayOf l + 29 ≤ channelsOf l
-short-inside Bands20 = omega arith
-short-inside Bands34 = omega arith
+side-rows : (l : Layout) (slots : ℕ) (y z : ℕ → ℕ → Complex) → ((n k : ℕ) → n < slots → k < channelsOf l → y n k ≡ z n k)
+    → qmfRows slots (λ n q. synthesised l (y n) q) ≡ qmfRows slots (λ n q. synthesised l (z n) q)
+side-rows l slots y z same = rows-same slots _ _ (λ n q u w. synthesised-same l (y n) (z n) (λ k h. same n k u h) q w)
 
 module _ (l : Layout) (f g : ℕ → Channel) (same : (k : ℕ) → k < channelsOf l → f k ≡ g k) where
   delays-same : (old : List Float) → delaysWith l f old ≡ delaysWith l g old
-  unfolding delaysWith
-  delays-same old =
-      rows-same (λ k. cond (ltb k (allPassOf l)) (memoryOf (f k)) (part (28 * k) 28 old)) (λ k. cond (ltb k (allPassOf l)) (memoryOf (g k)) (part (28 * k) 28 old)) 50
-      (λ k u. one k (ltb k (allPassOf l)) refl)
-    where
-      one : (k : ℕ) (t : Bool) → ltb k (allPassOf l) ≡ t → cond t (memoryOf (f k)) (part (28 * k) 28 old) ≡ cond t (memoryOf (g k)) (part (28 * k) 28 old)
-      one k true e = ap memoryOf (same k (omega (arith, ltb-true k (allPassOf l) e, all-pass-inside l)))
-      one k false e = refl
+  delays-same old = delays-alike l f g (λ k u. channel-itself l k (f k) (g k) (same k u)) old
 
   long-same : longWith l f ≡ longWith l g
-  unfolding longWith
-  long-same =
-      rows-same (λ j. imageOf 14 (f (allPassOf l + j) .past)) (λ j. imageOf 14 (g (allPassOf l + j) .past)) 12
-      (λ j u. ap (λ (c : Channel). imageOf 14 (c .past)) (same (allPassOf l + j) (omega (arith, long-inside l))))
+  long-same = long-alike l f g (λ k u. channel-itself l k (f k) (g k) (same k u))
 
   short-same : shortWith l f ≡ shortWith l g
-  unfolding shortWith
-  short-same =
-      rows-same (λ j. imageOf 1 (f (shortDelayOf l + j) .past)) (λ j. imageOf 1 (g (shortDelayOf l + j) .past)) 29
-      (λ j u. ap (λ (c : Channel). imageOf 1 (c .past)) (same (shortDelayOf l + j) (omega (arith, short-inside l))))
+  short-same = short-alike l f g (λ k u. channel-itself l k (f k) (g k) (same k u))
 
 -- ---- a frame
 

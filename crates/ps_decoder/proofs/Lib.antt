@@ -2,7 +2,6 @@ pub mod Slots
 pub mod Samples
 pub mod Ducking
 pub mod Coefficients
-pub mod Synthesis
 pub mod Channels
 pub mod Stages
 pub mod Accepted

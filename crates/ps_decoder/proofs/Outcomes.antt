@@ -12,7 +12,7 @@ use Rattle.answer.specs.declared.Answer.{Answer}
 use Rattle.answer.specs.declared.Answer.the-variants.{Done, Quiet, Buffers, Sample}
 use Rattle.answer.specs.Number.{numberOf}
 use Rattle.borders.specs.Borders.{slotsOf}
-use Rattle.calls.specs.Call.{Call, Playing, buffersFit, samplesFit, inputAnswer, resolved, answerOf, answer, headerOf, header, layout, after, played}
+use Rattle.calls.specs.Call.{Call, Playing, buffersFit, samplesFit, inputAnswer, resolved, answerOf, answer, headerOf, layoutIn, header, layout, after, played}
 use Rattle.calls.proofs.Outcomes.{done-played}
 use Rattle.cue.specs.declared.Header.{Header}
 use Rattle.cue.specs.declared.Line.{Line}
@@ -25,7 +25,7 @@ use Rattle.ps_state.specs.Ready.{readied}
 use Rattle.ps_state.specs.Shape.{Shaped}
 use Rattle.ps_decoder.specs.declared.Played.{Played}
 use Rattle.ps_decoder.specs.Frame.{decoderAfter, playedBy}
-use Rattle.ps_decoder.specs.Sound.{layoutIn, leftOf, rightOf, sounded}
+use Rattle.ps_decoder.specs.Sound.{leftOf, rightOf, sounded}
 use Rattle.ps_decoder.proofs.Accepted.{state-is, left-is, right-is}
 use Rattle.ps_decoder.proofs.Refusals.{Left}
 

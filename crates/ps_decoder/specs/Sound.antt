@@ -1,6 +1,6 @@
 -- An accepted frame by its stages, each over flat lists: analysis, ducking factors, coefficients at the borders, channels. Assumes nothing.
 use Prim.Native.Nat.{ℕ, min}
-use mathlib.Core.Bool.{Bool, true, cond}
+use mathlib.Core.Bool.{true}
 use mathlib.Core.List.{List}
 use lib.Ieee.{Float}
 use lib.ListN.{replicate}
@@ -12,17 +12,12 @@ use Rattle.calls.specs.Call.{modesOf}
 use Rattle.ps_data.specs.declared.PsIndexState.{PsIndexState}
 use Rattle.ps_data.specs.declared.PsIndices.{PsIndices}
 use Rattle.ps_data.specs.declared.Resolved.{Resolved}
-use Rattle.ps_data.specs.Indices.{layoutOf}
 use Rattle.ps_channels.specs.Channels as channels
 use Rattle.ps_decorr_transient.specs.Gains as gains
 use Rattle.ps_hybrid_analysis.specs.Analysis as analysis
 use Rattle.ps_stereo_borders.specs.Borders as borders
 use Rattle.ps_state.specs.declared.PsDecoder.{PsDecoder}
 use Rattle.standard.specs.Numbers.{zero}
-
--- the layout that a header asks for; an empty line leaves it
-abbrev pub layoutIn : Layout → Header → Layout
-layoutIn old h = cond (h .cued) (layoutOf (h .config)) old
 
 -- a state that is ready, what the line says, and the buffers
 module _ (s : PsDecoder) (h : Header) (indices : PsIndices) (positions : List ℕ) (input left right : List Float) where

@@ -8,11 +8,11 @@ use layout::Layout;
 use ps_data::Resolved;
 use ps_state::PsDecoder;
 ghost use mathlib.Core.Path.{_≡_};
-ghost use Rattle.calls.specs.Call.{played};
+ghost use Rattle.calls.specs.Call.{layoutIn, played};
 ghost use Rattle.ps_state.specs.Ready.{readied};
 ghost use Rattle.ps_state.specs.State.{playingOf};
 ghost use Rattle.ps_decoder.specs.Frame.{callOf, playedBy};
-ghost use Rattle.ps_decoder.specs.Sound.{layoutIn, leftOf, rightOf, sounded};
+ghost use Rattle.ps_decoder.specs.Sound.{leftOf, rightOf, sounded};
 
 // What a call answers, and the state after it.
 pub struct Played {

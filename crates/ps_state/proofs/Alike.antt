@@ -81,15 +81,15 @@ module _ (l : Layout) (c d : ℕ → Channel) (near : (k : ℕ) → k < channels
       (ap₂ (λ (a b : List Float). a ++ b) (image-alike 3 (c k .first) (d k .first) (n .first u))
       (ap₂ (λ (a b : List Float). a ++ b) (image-alike 4 (c k .second) (d k .second) (n .second u)) (image-alike 5 (c k .third) (d k .third) (n .third u))))
 
-  delays-alike : (old : List Float) → delaysWith l c old ≡ delaysWith l d old
+  pub delays-alike : (old : List Float) → delaysWith l c old ≡ delaysWith l d old
   unfolding delaysWith
   delays-alike old = rows-same _ _ 50 (λ k u. chosen (ltb k (allPassOf l)) _ _ _ (λ e. memory-alike k (ltb-true k (allPassOf l) e)))
 
-  long-alike : longWith l c ≡ longWith l d
+  pub long-alike : longWith l c ≡ longWith l d
   unfolding longWith
   long-alike = rows-same _ _ 12 (λ j u. past-alike (allPassOf l + j) 14 (long-inside l j u) (reach-long l j u))
 
-  short-alike : shortWith l c ≡ shortWith l d
+  pub short-alike : shortWith l c ≡ shortWith l d
   unfolding shortWith
   short-alike = rows-same _ _ 29 (λ j u. past-alike (shortDelayOf l + j) 1 (short-inside l j u) (reach-short l j))
 
