@@ -9,7 +9,7 @@ use Rattle.answer.specs.Number.{numberOf}
 use Rattle.calls.specs.Call.{Call, answer, played}
 use Rattle.ps_decoder.specs.declared.Played.{Played}
 use Rattle.ps_decoder.specs.Frame.{decoderAfter, playedBy}
-use Rattle.ps_memory.specs.Place.{loadOf, storedIn}
+use Rattle.ps_memory.specs.Place.{loaded, loadOver, storedIn}
 use Rattle.ps_state.specs.declared.PsDecoder.{PsDecoder}
 use Rattle.ps_state.specs.State.{freshDecoder, playingOf}
 use Rattle.lefasumu.specs.Face.{started, startedIn, called, calledOf, calledIn}
@@ -33,7 +33,13 @@ start-done m slots n s memory e l fresh stored = rw (stored, eq-eqb (length m) 2
 
 -- ---- a frame
 
-module _ (m : List Float) (c : Call) (s : PsDecoder) (r : Played) (left right : List Float) (n : ℕ) (held : s ≡ loadOf m) (told : r ≡ playedBy s c)
+-- whatever the arrays held
+pub loads : (m history delays long short detectors : List Float) (s : PsDecoder) (n : ℕ) → n ≡ 2372 → length m ≡ n
+    → s ≡ loadOver m history delays long short detectors → s ≡ loaded m
+unfolding loadOver
+loads m history delays long short detectors s n e l over = over ∙ rw (eq-eqb (length m) 2372 (l ∙ e))
+
+module _ (m : List Float) (c : Call) (s : PsDecoder) (r : Played) (left right : List Float) (n : ℕ) (held : s ≡ loaded m) (told : r ≡ playedBy s c)
     (to-left : left ≡ played (playingOf s) c .left) (to-right : right ≡ played (playingOf s) c .right) (numbered : n ≡ numberOf (r .answer)) where
   number-is : n ≡ numberOf (answer (playingOf s) c)
   unfolding playedBy

@@ -9,7 +9,7 @@ use Rattle.answer.specs.Number.{numberOf}
 use Rattle.answer.specs.declared.Answer.the-variants.{Done, Buffers}
 use Rattle.calls.specs.Call.{Call, answer, played}
 use Rattle.ps_decoder.specs.Frame.{decoderAfter}
-use Rattle.ps_memory.specs.Place.{image, loadOf}
+use Rattle.ps_memory.specs.Place.{image, loaded}
 use Rattle.ps_state.specs.declared.PsDecoder.{PsDecoder}
 use Rattle.ps_state.specs.State.{freshDecoder, playingOf}
 
@@ -45,4 +45,4 @@ calledOf m s c =
 
 -- memory of another length is refused before all else, and everything left as it is
 unfoldable pub calledIn : List Float → Call → Called
-calledIn m c = cond (eqb (length m) 2372) (calledOf m (loadOf m) c) (called (numberOf Buffers) m (c .left) (c .right))
+calledIn m c = cond (eqb (length m) 2372) (calledOf m (loaded m) c) (called (numberOf Buffers) m (c .left) (c .right))

@@ -1,4 +1,5 @@
 // The face for C: a decoder whose state lies in memory that the caller lends, 2,372 doubles. lefasumu.h says the same in C's words.
+use ps_state::PsCarried;
 ghost use mathlib.Core.Path.{_≡_};
 ghost use Rattle.ps_decoder.specs.Frame.{callOf};
 ghost use Rattle.lefasumu.specs.Face.{started, startedIn, called, calledIn};
@@ -19,7 +20,33 @@ pub extern "C" fn lefasumu_start(memory: &mut [f64], slots: usize) -> u32
     if memory.len() != ps_memory::numbers() {
         return 5;
     }
-    ps_memory::store(ps_state::fresh(slots), memory);
+    let state = ps_state::fresh(slots);
+    let layout = state.layout;
+    let indices = state.indices;
+    let stereo = state.stereo;
+    let carried = PsCarried {
+        asked: state.asked,
+        layout: layout,
+        configured: state.configured,
+        cued: state.cued,
+        indices: indices,
+        stereo: stereo,
+    };
+    let history = state.history;
+    let decorr = state.decorr;
+    let delays = decorr.delays;
+    let long = decorr.long;
+    let short = decorr.short;
+    let detectors = decorr.detectors;
+    ps_memory::store(
+        carried,
+        &history,
+        &delays,
+        &long,
+        &short,
+        &detectors,
+        memory,
+    );
     0
 }
 
@@ -38,12 +65,37 @@ pub extern "C" fn lefasumu_frame(
     if memory.len() != ps_memory::numbers() {
         return 5;
     }
-    let played = ps_decoder::frame(ps_memory::load(memory), line, input, edge, left, right);
+    let mut history = [0.0; 60];
+    let mut delays = [0.0; 1400];
+    let mut long = [0.0; 336];
+    let mut short = [0.0; 58];
+    let mut detectors = [0.0; 102];
+    let carried = ps_memory::load(
+        memory,
+        &mut history,
+        &mut delays,
+        &mut long,
+        &mut short,
+        &mut detectors,
+    );
+    let played = ps_decoder::lent_frame(
+        carried,
+        &mut history,
+        &mut delays,
+        &mut long,
+        &mut short,
+        &mut detectors,
+        line,
+        input,
+        edge,
+        left,
+        right,
+    );
     let answer = played.answer;
     let number = answer.number();
     if number == 0 {
-        let state = played.state;
-        ps_memory::store(state, memory);
+        let after = played.carried;
+        ps_memory::store(after, &history, &delays, &long, &short, &detectors, memory);
         return 0;
     }
     number as u32

@@ -10,7 +10,8 @@ use lib.Ieee.{Float}
 use lib.ListN.{length}
 use Rattle.layout.specs.declared.Layout.{Layout}
 use Rattle.ps_channels.specs.Channels.{leftAfter, rightAfter, delaysAfter, longAfter, shortAfter}
-use Rattle.ps_channels.specs.Turns.{Done, Sized}
+use Rattle.ps_channels.specs.Sofar.{Done}
+use Rattle.ps_channels.specs.Turns.{Sized}
 use Rattle.ps_channels.proofs.Finishing.{chains-are, longs-are, shorts-are}
 
 module _ (l : Layout) (borders : List ℕ) (count : ℕ) (samples gains rows delays long short : List Float) (slots : ℕ) (left right : List Float) where
@@ -40,7 +41,7 @@ module _ (l : Layout) (borders : List ℕ) (count : ℕ) (samples gains rows del
           (rw (yes, no), (rw (yes, no), (rw (yes, no), (rw (yes, no), rw (yes, no)))))
 
       pub all-done : length right ≡ 128 * within → Sized delays long short → (new-left new-right chains longs shorts : List Float)
-          → Done l borders count samples gains rows delays long short within chains longs shorts new-left new-right
+          → Done l borders count samples gains rows within delays long short chains longs shorts new-left new-right
           → Outcome new-left new-right chains longs shorts
       unfolding leftAfter rightAfter delaysAfter longAfter shortAfter
       all-done h s new-left new-right chains longs shorts d =

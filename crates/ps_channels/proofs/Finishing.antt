@@ -22,10 +22,10 @@ use Rattle.ps_decorr_channel.proofs.Numbers.{all-pass-small}
 use Rattle.ps_hybrid_synthesis.proofs.Rising.{risen-all}
 use Rattle.standard.specs.Channel.{Channel}
 use Rattle.standard.specs.Mixing.{leftOf, rightOf}
-use Rattle.ps_channels.specs.Channels.{sideRows}
-use Rattle.ps_channels.specs.Turns.{Done, Sized, afterwards}
+use Rattle.ps_channels.specs.Channels.{sideAt, sideRows}
+use Rattle.ps_channels.specs.Sofar.{afterwards, Sofar, Done}
+use Rattle.ps_channels.specs.Turns.{Sized}
 use Rattle.ps_channels.proofs.Memory.{renewed-all}
-use Rattle.ps_channels.proofs.Sofar.{sample-of, Sofar}
 
 long-count : (l : Layout) → min (channelsOf l) (shortDelayOf l) - allPassOf l ≡ 12
 long-count Bands20 = refl
@@ -51,22 +51,22 @@ rows-behind w from (suc m) f old =
 
 module _ (l : Layout) (borders : List ℕ) (count : ℕ) (samples gains rows delays long short : List Float) (slots : ℕ) where
   pub sofar-all : (left right chains longs shorts new-left new-right : List Float) → length left ≡ 128 * slots → length right ≡ 128 * slots
-      → Sofar l borders count samples gains rows delays long short slots left right (channelsOf l) chains longs shorts new-left new-right
-      → Done l borders count samples gains rows delays long short slots chains longs shorts new-left new-right
+      → Sofar l borders count samples gains rows slots delays long short left right (channelsOf l) chains longs shorts new-left new-right
+      → Done l borders count samples gains rows slots delays long short chains longs shorts new-left new-right
   unfolding sideRows
   sofar-all left right chains longs shorts new-left new-right left-long right-long s =
       record {
         all-pass = renewed-all 28 0 (allPassOf l) _ (s .memory .all-pass) (allPassOf l) (all-pass-count l);
         fourteen = renewed-all 28 (allPassOf l) (shortDelayOf l) _ (s .memory .fourteen) 12 (long-count l);
         one = renewed-all 2 (shortDelayOf l) (channelsOf l) _ (s .memory .one) 29 (short-count l);
-        left-rows = risen-all l (sample-of l borders count samples gains rows delays long short slots leftOf) slots left new-left (s .left-rows) left-long;
-        right-rows = risen-all l (sample-of l borders count samples gains rows delays long short slots rightOf) slots right new-right (s .right-rows) right-long;
+        left-rows = risen-all l (sideAt l borders count samples gains rows delays long short leftOf) slots left new-left (s .left-rows) left-long;
+        right-rows = risen-all l (sideAt l borders count samples gains rows delays long short rightOf) slots right new-right (s .right-rows) right-long;
       }
 
   -- the memory as it is told by its channels
-  module _ (chains longs shorts left right : List Float) (d : Done l borders count samples gains rows delays long short slots chains longs shorts left right) (s : Sized delays long short) where
+  module _ (chains longs shorts left right : List Float) (d : Done l borders count samples gains rows slots delays long short chains longs shorts left right) (s : Sized delays long short) where
     abbrev channel-of : ℕ → Channel
-    channel-of = afterwards l borders count samples gains rows delays long short slots
+    channel-of = afterwards l borders count samples gains rows slots delays long short
 
     pub chains-are : chains ≡ delaysWith l channel-of delays
     unfolding delaysWith

@@ -2,7 +2,10 @@ pub mod Reading
 pub mod Interpolating
 pub mod Memory
 pub mod Mixing
+pub mod Siding
 pub mod Sofar
 pub mod Turning
+pub mod Coming
+pub mod Rising
 pub mod Finishing
 pub mod Ending

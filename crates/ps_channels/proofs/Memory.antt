@@ -1,46 +1,61 @@
--- A memory that one channel after the other renews, of the channels from one number to before another: those that have come are new, and every other
--- part is as it was. Assumes nothing.
+-- A memory that one channel after the other renews, of the channels from one number to before another. Assumes nothing.
 use mathlib.Core.Path.{_≡_, sym, ap, _∙_}
-use mathlib.Core.List.{List, _++_}
-use Prim.Native.Nat.{ℕ, suc, _+_, _-_, _*_, min}
+use mathlib.Core.List.{List, _++_, append-nil, append-assoc}
+use Prim.Native.Nat.{ℕ, zero, suc, _+_, _-_, _*_, _≤_}
 use native.Mathlib.Numerals.{add-one}
-use native.Mathlib.Nat.{mul-suc, add-sub-cancel-left, mul-zero}
+use native.Mathlib.Nat.{add-zero, add-suc, mul-zero, mul-one, mul-add, mul-le-mul-left, add-sub-of-le, add-sub-cancel-left}
 use native.Mathlib.Omega.{arith}
 use lib.Ieee.{Float}
-use lib.ListN.{length, drop}
+use lib.ListN.{length, take, drop}
+use lib.Seq.{drop-drop}
 use Rattle.lists.specs.Part.{part, put}
 use Rattle.lists.specs.Rows.{rows}
-use Rattle.lists.proofs.Rows.{Rowed, rowed-none, rowed-lent, rowed-more}
+use Rattle.lists.proofs.Front.{Front, front-put}
+use Rattle.lists.proofs.Parts.{part-back}
+use Rattle.ps_channels.specs.Sofar.{come, Renewed}
+
+rows-add : (f : ℕ → List Float) (n m : ℕ) → rows f (n + m) ≡ rows f n ++ rows (λ i. f (n + i)) m
+unfolding rows
+rows-add f n zero = rw (add-zero, append-nil)
+rows-add f n (suc m) = rw (add-suc, rows-add f n m, append-assoc)
 
 -- w numbers for each channel
 module _ (w from until : ℕ) (f : ℕ → List Float) where
-  abbrev come : ℕ → ℕ
-  come k = min k until - from
-
-  pub record Renewed (k : ℕ) (old new : List Float) : Type 0 where
-    pub parts : Rowed f (come k) (w * come k) old new
-
-  pub renewed-none : (old : List Float) → Renewed 0 old old
+  pub renewed-none : (old : List Float) → Renewed w from until f 0 old old
+  unfolding rows
   renewed-none old =
-      let none : come 0 ≡ 0 = omega arith in
-      record { parts = rw (none, mul-zero) (rowed-none f old) }
+      let none : come from until 0 ≡ 0 = omega arith in
+      record { long = rw (none, mul-zero); is = rw (none, mul-zero) }
 
-  module _ {k : ℕ} {old new : List Float} (r : Renewed k old new) where
-    -- a channel of another memory
-    pub renewed-apart : come (suc k) ≡ come k → Renewed (suc k) old new
-    renewed-apart e = record { parts = rw e (r .parts) }
+  module _ {k : ℕ} {old new : List Float} (r : Renewed w from until f k old new) where
+    -- channels of another memory
+    pub renewed-apart : (next : ℕ) → come from until next ≡ come from until k → Renewed w from until f next old new
+    renewed-apart next e = record { long = rw e (r .long); is = rw e (r .is) }
 
-    pub renewed-at : (place : ℕ) → come k ≡ place → part (w * place) w new ≡ part (w * place) w old
-    renewed-at place e =
-        ap (λ (m : ℕ). part (w * place) m new) (sym (add-sub-cancel-left (w * place) w))
-        ∙ rowed-lent (rw e at (r .parts)) w
+    -- a channel that is still to come is as it was
+    pub renewed-at : (place : ℕ) → come from until k ≤ place → part (w * place) w new ≡ part (w * place) w old
+    renewed-at place h =
+        let low : w * come from until k ≤ w * place = mul-le-mul-left w h in
+        ap (part (w * place) w) (r .is)
+        ∙ part-back (w * place) w (rows f (come from until k)) (drop (w * come from until k) old) (rw (r .long) low)
+        ∙ ap (λ (m : ℕ). part (w * place - m) w (drop (w * come from until k) old)) (r .long)
+        ∙ ap (take w) (drop-drop (w * place - w * come from until k) (w * come from until k) old ∙ ap (λ (m : ℕ). drop m old) (add-sub-of-le low))
 
-    pub renewed-next : (place : ℕ) (ys : List Float) → come k ≡ place → come (suc k) ≡ suc place → ys ≡ f place → length ys ≡ w
-        → Renewed (suc k) old (put (w * place) w new ys)
+    -- the next m channels come, all at once
+    pub renewed-more : (next place m : ℕ) (ys : List Float) → come from until k ≡ place → come from until next ≡ place + m → ys ≡ rows (λ i. f (place + i)) m → length ys ≡ w * m
+        → Renewed w from until f next old (put (w * place) (w * m) new ys)
+    renewed-more next place m ys e more is long =
+        let here : Front (rows f (come from until k)) (w * come from until k) old new = record { done = r .long; is = r .is } in
+        let come-more : Front (rows f place ++ ys) (w * place + w * m) old (put (w * place) (w * place + w * m - w * place) new ys) = front-put (rw e at here) (w * m) ys long in
+        let all : rows f place ++ ys ≡ rows f (place + m) = ap (λ (t : List Float). rows f place ++ t) is ∙ sym (rows-add f place m) in
+        let told : Front (rows f (place + m)) (w * (place + m)) old (put (w * place) (w * m) new ys) = rw (all, add-sub-cancel-left (w * place) (w * m), ← mul-add w place m) at come-more in
+        record { long = rw more (told .done); is = rw more (told .is) }
+
+    pub renewed-next : (place : ℕ) (ys : List Float) → come from until k ≡ place → come from until (suc k) ≡ suc place → ys ≡ f place → length ys ≡ w
+        → Renewed w from until f (suc k) old (put (w * place) w new ys)
+    unfolding rows
     renewed-next place ys e next is long =
-        let here : Rowed f place (w * place) old new = rw e at (r .parts) in
-        let more : Rowed f (place + 1) (w * suc place) old (put (w * place) (w * place + w - w * place) new ys) = rowed-more here w ys is long (mul-suc w place) in
-        record { parts = rw next (rw (add-one place, add-sub-cancel-left (w * place) w) at more) }
+        rw (mul-one w) at (renewed-more (suc k) place 1 ys e (next ∙ sym (add-one place)) (is ∙ ap f (sym (add-zero place))) (long ∙ sym (mul-one w)))
 
-    pub renewed-all : (count : ℕ) → come k ≡ count → new ≡ rows f count ++ drop (w * count) old
-    renewed-all count e = (rw e at (r .parts)) .front .is
+    pub renewed-all : (count : ℕ) → come from until k ≡ count → new ≡ rows f count ++ drop (w * count) old
+    renewed-all count e = rw e at (r .is)

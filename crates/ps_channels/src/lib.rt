@@ -1,14 +1,16 @@
-// All channels of a frame (source documents 000 to 002): each is de-correlated, mixed, and added to its QMF band's column of left and right.
+// All channels of a frame (source documents 000 to 002): each is de-correlated, mixed, and added to its QMF band's column of left and right, in blocks
+// of four channels.
+mod block;
 mod turn;
 
 use layout::Layout;
 ghost use mathlib.Core.Path.{_≡_};
 ghost use Prim.Native.Nat.{_*_, _≤_, min};
 ghost use lib.ListN.{length};
-ghost use Rattle.ps_map.specs.Bands.{parameterMap};
 ghost use Rattle.standard.specs.Channel.{rotationsOf};
 ghost use Rattle.ps_channels.specs.Channels.{leftAfter, rightAfter, delaysAfter, longAfter, shortAfter};
-ghost use Rattle.ps_channels.specs.Turns.{Fractions, Done, Sized};
+ghost use Rattle.ps_channels.specs.Sofar.{Done};
+ghost use Rattle.ps_channels.specs.Turns.{Lent, Sized};
 
 fn least(a: usize, b: usize) -> usize
     ensures { λ r. ⌜ r ≡ min a b ⌝ }
@@ -16,7 +18,7 @@ fn least(a: usize, b: usize) -> usize
     if a < b { a } else { b }
 }
 
-// The channels in rising order. The lists that a channel fills and leaves are lent, so that none is built inside the loop.
+// The channels in rising order, a block at a time. The lists that a block fills and leaves are lent, so that none is built inside the loop.
 fn each(
     layout: Layout,
     map: &[u8; 91],
@@ -32,47 +34,52 @@ fn each(
     short: &mut [f64; 58],
     slots: usize,
     runs: &mut [f64; 256],
-    decorrelated: &mut [f64; 64],
-    lefts: &mut [f64; 64],
-    rights: &mut [f64; 64],
+    decorrelated: &mut [f64; 256],
+    one: &mut [f64; 64],
+    lefts: &mut [f64; 256],
+    rights: &mut [f64; 256],
     left: &mut [f64],
     right: &mut [f64],
 )
-    requires { ⌜ (now map ≡ parameterMap layout) × (now table ≡ rotationsOf layout) ⌝ }
-    requires { ⌜ Fractions borders count (now fractions) ⌝ }
-    requires { ⌜ (slots ≤ 32) × ((length (now left) ≡ 128 * slots) × (length (now right) ≡ 128 * slots)) ⌝ }
-    ensures { λ _. ⌜ Done layout borders count (now (samples .entry)) (now (gains .entry)) (now (rows .entry))
-        (now (delays .entry)) (now (long .entry)) (now (short .entry)) slots
+    requires { ⌜ Lent layout borders count (now map) (now fractions) slots × (now table ≡ rotationsOf layout) ⌝ }
+    requires { ⌜ (length (now left) ≡ 128 * slots) × (length (now right) ≡ 128 * slots) ⌝ }
+    ensures { λ _. ⌜ Done layout borders count (now (samples .entry)) (now (gains .entry)) (now (rows .entry)) slots
+        (now (delays .entry)) (now (long .entry)) (now (short .entry))
         (now (delays .exit)) (now (long .exit)) (now (short .exit)) (now (left .exit)) (now (right .exit)) ⌝ }
 {
     let channels = layout.channels();
     let mut held = 34;
-    for k in 0..channels {
-        let band = turn::band_at(map, k);
-        turn::coefficients(rows, fractions, borders, count, band, held, slots, runs);
-        held = band;
-        turn::channel(
+    let mut k = 0;
+    while k < channels {
+        held = block::turn(
             layout,
             k,
+            map,
             table,
+            borders,
+            count,
+            fractions,
+            samples,
+            gains,
+            rows,
             delays,
             long,
             short,
-            samples,
-            gains,
-            band,
+            held,
             runs,
-            slots,
             decorrelated,
+            one,
+            slots,
             lefts,
             rights,
             left,
             right,
         );
+        k += 4;
     }
 }
 
-// What every channel takes is made once: the map, the fractions, and room for one channel.
+// What every channel takes is made once: the map, the fractions, and room for a block of channels.
 fn frame(
     layout: Layout,
     table: &[i64],
@@ -90,16 +97,17 @@ fn frame(
 )
     requires { ⌜ now table ≡ rotationsOf layout ⌝ }
     requires { ⌜ (slots ≤ 32) × ((length (now left) ≡ 128 * slots) × (length (now right) ≡ 128 * slots)) ⌝ }
-    ensures { λ _. ⌜ Done layout borders count (now (samples .entry)) (now (gains .entry)) (now (rows .entry))
-        (now (delays .entry)) (now (long .entry)) (now (short .entry)) slots
+    ensures { λ _. ⌜ Done layout borders count (now (samples .entry)) (now (gains .entry)) (now (rows .entry)) slots
+        (now (delays .entry)) (now (long .entry)) (now (short .entry))
         (now (delays .exit)) (now (long .exit)) (now (short .exit)) (now (left .exit)) (now (right .exit)) ⌝ }
 {
     let map = ps_map::parameter_map(layout);
     let mut fractions = [0.0f64; 128];
     let mut runs = [0.0f64; 256];
-    let mut decorrelated = [0.0f64; 64];
-    let mut lefts = [0.0f64; 64];
-    let mut rights = [0.0f64; 64];
+    let mut decorrelated = [0.0f64; 256];
+    let mut one = [0.0f64; 64];
+    let mut lefts = [0.0f64; 256];
+    let mut rights = [0.0f64; 256];
     ps_stereo_slots::fractions(borders, count, &mut fractions);
     each(
         layout,
@@ -117,6 +125,7 @@ fn frame(
         slots,
         &mut runs,
         &mut decorrelated,
+        &mut one,
         &mut lefts,
         &mut rights,
         left,
@@ -140,8 +149,8 @@ fn rotated(
     right: &mut [f64],
 )
     requires { ⌜ (slots ≤ 32) × ((length (now left) ≡ 128 * slots) × (length (now right) ≡ 128 * slots)) ⌝ }
-    ensures { λ _. ⌜ Done layout borders count (now (samples .entry)) (now (gains .entry)) (now (rows .entry))
-        (now (delays .entry)) (now (long .entry)) (now (short .entry)) slots
+    ensures { λ _. ⌜ Done layout borders count (now (samples .entry)) (now (gains .entry)) (now (rows .entry)) slots
+        (now (delays .entry)) (now (long .entry)) (now (short .entry))
         (now (delays .exit)) (now (long .exit)) (now (short .exit)) (now (left .exit)) (now (right .exit)) ⌝ }
 {
     match layout {

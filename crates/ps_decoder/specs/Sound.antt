@@ -2,6 +2,7 @@
 use Prim.Native.Nat.{ℕ, min}
 use mathlib.Core.Bool.{true}
 use mathlib.Core.List.{List}
+use mathlib.Core.Path.{_≡_}
 use lib.Ieee.{Float}
 use lib.ListN.{replicate}
 use Rattle.borders.specs.Borders.{slotsOf, bordersOf}
@@ -68,3 +69,9 @@ module _ (s : PsDecoder) (h : Header) (indices : PsIndices) (positions : List �
             };
         stereo = borders.stereoAfter (s .layout) (modesOf h) (h .config) indices (s .stereo) count;
       }
+
+-- an accepted frame from a state that is ready: the state after it, and both sides
+pub record Sounded (s : PsDecoder) (h : Header) (r : Resolved) (input left right : List Float) (after : PsDecoder) (new-left new-right : List Float) : Type 0 where
+  pub state : after ≡ sounded s h (r .indices) (r .positions) input left right (r .state)
+  pub left-rows : new-left ≡ leftOf s h (r .indices) (r .positions) input left right
+  pub right-rows : new-right ≡ rightOf s h (r .indices) (r .positions) input left right

@@ -6,18 +6,27 @@ use cue::Header;
 use cue::Line;
 use layout::Layout;
 use ps_data::Resolved;
+use ps_decorr::PsDecorr;
+use ps_state::PsCarried;
 use ps_state::PsDecoder;
 ghost use mathlib.Core.Path.{_≡_};
 ghost use Rattle.calls.specs.Call.{layoutIn, played};
 ghost use Rattle.ps_state.specs.Ready.{readied};
-ghost use Rattle.ps_state.specs.State.{playingOf};
-ghost use Rattle.ps_decoder.specs.Frame.{callOf, playedBy};
-ghost use Rattle.ps_decoder.specs.Sound.{leftOf, rightOf, sounded};
+ghost use Rattle.ps_state.specs.Shape.{Lent};
+ghost use Rattle.ps_state.specs.State.{decoderOf, playingOf};
+ghost use Rattle.ps_decoder.specs.Frame.{callOf, playedOf, playedBy};
+ghost use Rattle.ps_decoder.specs.Sound.{Sounded};
 
 // What a call answers, and the state after it.
 pub struct Played {
     pub answer: Answer,
     pub state: PsDecoder,
+}
+
+// The same of a state whose arrays are lent.
+pub struct Answered {
+    pub answer: Answer,
+    pub carried: PsCarried,
 }
 
 // An empty line leaves the configuration in force, and so the layout.
@@ -34,28 +43,133 @@ fn layout_in(old: Layout, header: Header) -> Layout
 
 // An accepted frame.
 fn play(
-    state: PsDecoder,
+    carried: PsCarried,
+    history: &mut [f64; 60],
+    delays: &mut [f64; 1400],
+    long: &mut [f64; 336],
+    short: &mut [f64; 58],
+    detectors: &mut [f64; 102],
     header: Header,
     resolved: Resolved,
     input: &[f64],
     edge: usize,
     left: &mut [f64],
     right: &mut [f64],
-) -> PsDecoder
-    ensures state { λ r. ⌜ r ≡ sounded (readied (layoutIn (state .layout) header) edge state) header (resolved .indices) (resolved .positions) (now (input .entry)) (now (left .entry)) (now (right .entry)) (resolved .state) ⌝ }
-    ensures left { λ _. ⌜ now (left .exit) ≡ leftOf (readied (layoutIn (state .layout) header) edge state) header (resolved .indices) (resolved .positions) (now (input .entry)) (now (left .entry)) (now (right .entry)) ⌝ }
-    ensures right { λ _. ⌜ now (right .exit) ≡ rightOf (readied (layoutIn (state .layout) header) edge state) header (resolved .indices) (resolved .positions) (now (input .entry)) (now (left .entry)) (now (right .entry)) ⌝ }
+) -> PsCarried
+    ensures { λ r. ⌜ Sounded (readied (layoutIn (carried .layout) header) edge
+        (decoderOf carried (now (history .entry)) (now (delays .entry)) (now (long .entry)) (now (short .entry)) (now (detectors .entry))))
+        header resolved (now (input .entry)) (now (left .entry)) (now (right .entry))
+        (decoderOf r (now (history .exit)) (now (delays .exit)) (now (long .exit)) (now (short .exit)) (now (detectors .exit)))
+        (now (left .exit)) (now (right .exit)) ⌝ }
 {
-    let old = state.layout;
+    let old = carried.layout;
     let layout = layout_in(old, header);
-    let ready = ps_state::ready(state, layout, edge);
+    let ready = ps_state::ready(
+        carried,
+        layout,
+        edge,
+        history,
+        delays,
+        long,
+        short,
+        detectors,
+    );
     let indices = resolved.indices;
     let positions = resolved.positions;
     let kept = resolved.state;
-    sound::sound(ready, header, indices, positions, kept, input, left, right)
+    sound::sound(
+        ready,
+        history,
+        delays,
+        long,
+        short,
+        detectors,
+        header,
+        indices,
+        positions,
+        kept,
+        input,
+        left,
+        right,
+    )
 }
 
-// A frame: a cue line, the input's QMF rows, the spectrum edge, and the two outputs. A call that is not answered with Done changes nothing.
+// An array that is lent as a slice tells its length, which no proof knows otherwise.
+fn sized(history: &[f64], delays: &[f64], long: &[f64], short: &[f64], detectors: &[f64])
+    requires { ⌜ Lent (now history) (now delays) (now long) (now short) (now detectors) ⌝ }
+    ensures { λ _. ⌜ Lent (now (history .entry)) (now (delays .entry)) (now (long .entry)) (now (short .entry)) (now (detectors .entry)) ⌝ }
+{}
+
+// A frame: a cue line, the input's QMF rows, the spectrum edge, and the two outputs. A call that is not answered with Done changes nothing. The state's
+// small part goes by value, its arrays are lent, so that nothing large is copied.
+pub fn lent_frame(
+    carried: PsCarried,
+    history: &mut [f64; 60],
+    delays: &mut [f64; 1400],
+    long: &mut [f64; 336],
+    short: &mut [f64; 58],
+    detectors: &mut [f64; 102],
+    line: &[u8],
+    input: &[f64],
+    edge: usize,
+    left: &mut [f64],
+    right: &mut [f64],
+) -> Answered
+    ensures carried { λ r. ⌜ playedOf r (now (history .exit)) (now (delays .exit)) (now (long .exit)) (now (short .exit)) (now (detectors .exit))
+        ≡ playedBy (decoderOf carried (now (history .entry)) (now (delays .entry)) (now (long .entry)) (now (short .entry)) (now (detectors .entry)))
+        (callOf (now (line .entry)) (now (input .entry)) edge (now (left .entry)) (now (right .entry))) ⌝ }
+    ensures left { λ _. ⌜ now (left .exit)
+        ≡ played (playingOf (decoderOf carried (now (history .entry)) (now (delays .entry)) (now (long .entry)) (now (short .entry)) (now (detectors .entry))))
+        (callOf (now (line .entry)) (now (input .entry)) edge (now (left .entry)) (now (right .entry))) .left ⌝ }
+    ensures right { λ _. ⌜ now (right .exit)
+        ≡ played (playingOf (decoderOf carried (now (history .entry)) (now (delays .entry)) (now (long .entry)) (now (short .entry)) (now (detectors .entry))))
+        (callOf (now (line .entry)) (now (input .entry)) edge (now (left .entry)) (now (right .entry))) .right ⌝ }
+{
+    sized(history, delays, long, short, detectors);
+    let kept = carried.indices;
+    let resolved = ps_data::resolve(kept, line);
+    let said = resolved.line;
+    let Line::Read(header) = said else {
+        return Answered {
+            answer: said.answer(),
+            carried: carried,
+        };
+    };
+    let heard = ps_data::read_answer(header, carried.configured);
+    let Answer::Done = heard else {
+        return Answered {
+            answer: heard,
+            carried: carried,
+        };
+    };
+    let lent = ps_input::input_answer(carried.asked, input, left.len(), right.len());
+    let Answer::Done = lent else {
+        return Answered {
+            answer: lent,
+            carried: carried,
+        };
+    };
+    let next = play(
+        carried,
+        history,
+        delays,
+        long,
+        short,
+        detectors,
+        header,
+        resolved,
+        input,
+        edge,
+        left,
+        right,
+    );
+    Answered {
+        answer: Answer::Done,
+        carried: next,
+    }
+}
+
+// A frame of a whole state by value.
 pub fn frame(
     state: PsDecoder,
     line: &[u8],
@@ -68,32 +182,57 @@ pub fn frame(
     ensures left { λ _. ⌜ now (left .exit) ≡ played (playingOf state) (callOf (now (line .entry)) (now (input .entry)) edge (now (left .entry)) (now (right .entry))) .left ⌝ }
     ensures right { λ _. ⌜ now (right .exit) ≡ played (playingOf state) (callOf (now (line .entry)) (now (input .entry)) edge (now (left .entry)) (now (right .entry))) .right ⌝ }
 {
-    let kept = state.indices;
-    let resolved = ps_data::resolve(kept, line);
-    let said = resolved.line;
-    let Line::Read(header) = said else {
-        return Played {
-            answer: said.answer(),
-            state: state,
-        };
+    let old = state.layout;
+    let rows = state.indices;
+    let coefficients = state.stereo;
+    let carried = PsCarried {
+        asked: state.asked,
+        layout: old,
+        configured: state.configured,
+        cued: state.cued,
+        indices: rows,
+        stereo: coefficients,
     };
-    let heard = ps_data::read_answer(header, state.configured);
-    let Answer::Done = heard else {
-        return Played {
-            answer: heard,
-            state: state,
-        };
-    };
-    let lent = ps_input::input_answer(state.asked, input, left.len(), right.len());
-    let Answer::Done = lent else {
-        return Played {
-            answer: lent,
-            state: state,
-        };
-    };
-    let next = play(state, header, resolved, input, edge, left, right);
+    let mut history = state.history;
+    let decorr = state.decorr;
+    let mut delays = decorr.delays;
+    let mut long = decorr.long;
+    let mut short = decorr.short;
+    let mut detectors = decorr.detectors;
+    let answered = lent_frame(
+        carried,
+        &mut history,
+        &mut delays,
+        &mut long,
+        &mut short,
+        &mut detectors,
+        line,
+        input,
+        edge,
+        left,
+        right,
+    );
+    let answer = answered.answer;
+    let after = answered.carried;
+    let layout = after.layout;
+    let indices = after.indices;
+    let stereo = after.stereo;
     Played {
-        answer: Answer::Done,
-        state: next,
+        answer: answer,
+        state: PsDecoder {
+            asked: after.asked,
+            layout: layout,
+            configured: after.configured,
+            cued: after.cued,
+            indices: indices,
+            history: history,
+            decorr: PsDecorr {
+                delays: delays,
+                long: long,
+                short: short,
+                detectors: detectors,
+            },
+            stereo: stereo,
+        },
     }
 }

@@ -2,11 +2,11 @@
 use cue::Header;
 use ps_data::PsIndexState;
 use ps_data::PsIndices;
-use ps_decorr::PsDecorr;
-use ps_state::PsDecoder;
+use ps_state::PsCarried;
 use standard::Modes;
 ghost use mathlib.Core.Path.{_≡_};
 ghost use Rattle.calls.specs.Call.{modesOf};
+ghost use Rattle.ps_state.specs.State.{decoderOf};
 ghost use Rattle.ps_decoder.specs.Sound.{leftOf, rightOf, sounded};
 
 // How the coefficients of a frame are made.
@@ -23,8 +23,14 @@ fn modes(header: Header) -> Modes
     }
 }
 
+// From a state that is ready, whose arrays are lent.
 pub fn sound(
-    state: PsDecoder,
+    carried: PsCarried,
+    history: &mut [f64; 60],
+    delays: &mut [f64; 1400],
+    long: &mut [f64; 336],
+    short: &mut [f64; 58],
+    detectors: &mut [f64; 102],
     header: Header,
     indices: PsIndices,
     positions: [u8; 4],
@@ -32,22 +38,25 @@ pub fn sound(
     input: &[f64],
     left: &mut [f64],
     right: &mut [f64],
-) -> PsDecoder
-    ensures state { λ r. ⌜ r ≡ sounded state header indices positions (now (input .entry)) (now (left .entry)) (now (right .entry)) kept ⌝ }
-    ensures left { λ _. ⌜ now (left .exit) ≡ leftOf state header indices positions (now (input .entry)) (now (left .entry)) (now (right .entry)) ⌝ }
-    ensures right { λ _. ⌜ now (right .exit) ≡ rightOf state header indices positions (now (input .entry)) (now (left .entry)) (now (right .entry)) ⌝ }
+) -> PsCarried
+    ensures carried { λ r. ⌜ decoderOf r (now (history .exit)) (now (delays .exit)) (now (long .exit)) (now (short .exit)) (now (detectors .exit))
+        ≡ sounded (decoderOf carried (now (history .entry)) (now (delays .entry)) (now (long .entry)) (now (short .entry)) (now (detectors .entry)))
+        header indices positions (now (input .entry)) (now (left .entry)) (now (right .entry)) kept ⌝ }
+    ensures left { λ _. ⌜ now (left .exit)
+        ≡ leftOf (decoderOf carried (now (history .entry)) (now (delays .entry)) (now (long .entry)) (now (short .entry)) (now (detectors .entry)))
+        header indices positions (now (input .entry)) (now (left .entry)) (now (right .entry)) ⌝ }
+    ensures right { λ _. ⌜ now (right .exit)
+        ≡ rightOf (decoderOf carried (now (history .entry)) (now (delays .entry)) (now (long .entry)) (now (short .entry)) (now (detectors .entry)))
+        header indices positions (now (input .entry)) (now (left .entry)) (now (right .entry)) ⌝ }
 {
-    let layout = state.layout;
+    let layout = carried.layout;
     let envelopes = header.envelopes as usize;
-    let slots = borders::slots(state.asked);
-    let mut history = state.history;
+    let slots = borders::slots(carried.asked);
     let mut samples = [0.0; 5824];
-    ps_hybrid_analysis::analyse(layout, state.asked, &mut history, input, &mut samples);
-    let decorr = state.decorr;
-    let mut detectors = decorr.detectors;
+    ps_hybrid_analysis::analyse(layout, carried.asked, history, input, &mut samples);
     let mut gains = [0.0; 1088];
-    ps_decorr_transient::duck(layout, &mut detectors, &samples, slots, &mut gains);
-    let stereo = state.stereo;
+    ps_decorr_transient::duck(layout, detectors, &samples, slots, &mut gains);
+    let stereo = carried.stereo;
     let mut rows = [0.0; 1360];
     let config = header.config;
     let mixed = ps_stereo_borders::coefficients(
@@ -59,10 +68,7 @@ pub fn sound(
         stereo,
         &mut rows,
     );
-    let places = borders::borders(state.asked, header.variable, envelopes, positions);
-    let mut delays = decorr.delays;
-    let mut long = decorr.long;
-    let mut short = decorr.short;
+    let places = borders::borders(carried.asked, header.variable, envelopes, positions);
     ps_channels::channels(
         layout,
         places,
@@ -70,26 +76,19 @@ pub fn sound(
         &samples,
         &gains,
         &rows,
-        &mut delays,
-        &mut long,
-        &mut short,
+        delays,
+        long,
+        short,
         slots,
         left,
         right,
     );
-    PsDecoder {
-        asked: state.asked,
+    PsCarried {
+        asked: carried.asked,
         layout: layout,
         configured: true,
         cued: header.cued,
         indices: kept,
-        history: history,
-        decorr: PsDecorr {
-            delays: delays,
-            long: long,
-            short: short,
-            detectors: detectors,
-        },
         stereo: mixed,
     }
 }

@@ -4,7 +4,7 @@ ghost use mathlib.Core.Path.{_≡_};
 ghost use Prim.Native.Nat.{_-_, _*_, _≤_, min};
 ghost use lib.ListN.{length};
 ghost use Rattle.layout.specs.Numbers.{allPassOf, shortDelayOf};
-ghost use Rattle.ps_decorr.specs.State.{freshDecorr, clearedFrom, resetFrom};
+ghost use Rattle.ps_decorr.specs.State.{freshDecorr, clearedFrom, delaysReset, longReset, shortReset};
 
 // The all-pass channels, the delays of 14 slots, those of one slot, and the transient detectors.
 pub struct PsDecorr {
@@ -91,12 +91,18 @@ fn short_place(layout: Layout, k: usize) -> usize
 }
 
 // A frame's own reset: the delays of the channels from k on.
-pub fn reset_from(state: PsDecorr, layout: Layout, k: usize) -> PsDecorr
-    ensures { λ r. ⌜ r ≡ resetFrom layout k state ⌝ }
+pub fn reset_from(
+    layout: Layout,
+    k: usize,
+    delays: &mut [f64; 1400],
+    long: &mut [f64; 336],
+    short: &mut [f64; 58],
+)
+    ensures delays { λ _. ⌜ now (delays .exit) ≡ delaysReset k (now (delays .entry)) ⌝ }
+    ensures long { λ _. ⌜ now (long .exit) ≡ longReset layout k (now (long .entry)) ⌝ }
+    ensures short { λ _. ⌜ now (short .exit) ≡ shortReset layout k (now (short .entry)) ⌝ }
 {
-    let mut t = state;
-    clear_delays(&mut t.delays, delays_place(k));
-    clear_long(&mut t.long, long_place(layout, k));
-    clear_short(&mut t.short, short_place(layout, k));
-    t
+    clear_delays(delays, delays_place(k));
+    clear_long(long, long_place(layout, k));
+    clear_short(short, short_place(layout, k));
 }

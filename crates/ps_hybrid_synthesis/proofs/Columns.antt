@@ -17,6 +17,10 @@ use Rattle.planar.specs.Cells.{cell, stored}
 use Rattle.planar.proofs.Cells.{by-parts, stored-length}
 use Rattle.ps_hybrid_synthesis.specs.Column.{numberIn, written}
 
+pub written-length : (value : ℕ → Complex) (column : ℕ) (rows : List Float) (slots : ℕ) → length (written value column rows slots) ≡ length rows
+unfolding written
+written-length value column rows slots = tabulate-length (numberIn value column rows slots) (length rows)
+
 -- n slots of the column are written
 pub record Column (value : ℕ → Complex) (column : ℕ) (old : List Float) (n : ℕ) (new : List Float) : Type 0 where
   pub long : length new ≡ length old

@@ -24,6 +24,7 @@ use Rattle.standard.specs.Hybrid.{spanOf, addedTo, synthesised}
 use Rattle.ps_hybrid_synthesis.specs.Column.{numberIn, written, passed, started, added, column, cellAfter, rowsAfter}
 use Rattle.ps_hybrid_synthesis.specs.Rising.{columnTo, Risen}
 use Rattle.ps_hybrid_synthesis.proofs.Spans.{Spanned, column-spanned, column-unsplit, column-few, split-within, unsplit-passed, column-untouched, column-complete, column-other}
+use Rattle.ps_hybrid_synthesis.proofs.Columns.{written-length}
 use Rattle.ps_hybrid_synthesis.proofs.Ways.{with-both}
 
 -- ---- rows with a column written, read
@@ -59,10 +60,6 @@ module _ (value : ℕ → Complex) (at : ℕ) (rows : List Float) (slots n q : �
         by-parts
         (number-read (128 * n + 2 * q) (omega arith) ∙ real-of ∙ rw (lt-ltb n slots slot, ne-eqb q at ne))
         (number-read (128 * n + 2 * q + 1) (omega arith) ∙ imaginary-of ∙ rw (lt-ltb n slots slot, ne-eqb q at ne))
-
-written-length : (value : ℕ → Complex) (at : ℕ) (rows : List Float) (slots : ℕ) → length (written value at rows slots) ≡ length rows
-unfolding written
-written-length value at rows slots = tabulate-length (numberIn value at rows slots) (length rows)
 
 -- ---- the channel's own column
 

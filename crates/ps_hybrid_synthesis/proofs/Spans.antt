@@ -31,11 +31,15 @@ split-some Bands20 = refl
 split-some Bands34 = refl
 
 -- the unsplit bands up to the 64th are the channels up to the last
-last-channel : (l : Layout) → channelsOf l + splitOf l ≡ 64 + unsplitFromOf l
+pub last-channel : (l : Layout) → channelsOf l + splitOf l ≡ 64 + unsplitFromOf l
 last-channel Bands20 = refl
 last-channel Bands34 = refl
 
-split-few : (l : Layout) → splitOf l ≤ 64
+pub channels-few : (l : Layout) → channelsOf l ≤ 91
+channels-few Bands20 = omega arith
+channels-few Bands34 = omega arith
+
+pub split-few : (l : Layout) → splitOf l ≤ 64
 split-few Bands20 = omega arith
 split-few Bands34 = omega arith
 

@@ -1,5 +1,6 @@
 -- The three ways of a channel, and the two tests before them, are the cases of the definition. Assumes nothing.
 use mathlib.Core.Path.{_≡_, sym, _∙_}
+use mathlib.Core.Bool.{and-false}
 use mathlib.Core.List.{List}
 use Prim.Native.Nat.{ℕ, _+_, _-_, _*_, _<_, _≤_}
 use borrow.Author.Tests.{lt-ltb, le-ltb, eq-eqb, ne-eqb, le-leb, lt-leb}
@@ -35,9 +36,9 @@ module _ (l : Layout) (k : ℕ) (run rows : List Float) (slots : ℕ) where
   unfolding rowsAfter
   without-channel h = rw (le-ltb k (channelsOf l) h)
 
-  pub without-room : k < channelsOf l → length rows < 128 * slots → rows ≡ rowsAfter l k run rows slots
+  pub without-room : length rows < 128 * slots → rows ≡ rowsAfter l k run rows slots
   unfolding rowsAfter
-  without-room h r = rw (lt-ltb k (channelsOf l) h, lt-leb (128 * slots) (length rows) r)
+  without-room r = rw (lt-leb (128 * slots) (length rows) r, and-false)
 
   pub with-both : k < channelsOf l → 128 * slots ≤ length rows → after ≡ rowsAfter l k run rows slots
   unfolding rowsAfter

@@ -10,6 +10,7 @@ use Rattle.complex.specs.declared.Complex.{Complex}
 use Rattle.complex.specs.Operations.{sum}
 use Rattle.layout.specs.declared.Layout.{Layout}
 use Rattle.layout.specs.Numbers.{splitOf, unsplitFromOf, channelsOf}
+use Rattle.lists.specs.Part.{part}
 use Rattle.lists.specs.Rows.{tabulate}
 use Rattle.planar.specs.Cells.{cell}
 use Rattle.standard.specs.Numbers.{nought}
@@ -57,3 +58,11 @@ module _ (l : Layout) (k : ℕ) (run rows : List Float) where
 
   unfoldable pub rowsAfter : ℕ → List Float
   rowsAfter slots = cond (there slots) (written cellAfter (column l k) rows slots) rows
+
+-- four channels, k to k + 3, one after the other, each from its run of 64 numbers
+unfoldable pub fourAfter : Layout → ℕ → List Float → List Float → ℕ → List Float
+fourAfter l k runs rows slots =
+    rowsAfter l (k + 3) (part 192 64 runs)
+    (rowsAfter l (k + 2) (part 128 64 runs)
+    (rowsAfter l (k + 1) (part 64 64 runs)
+    (rowsAfter l k (part 0 64 runs) rows slots) slots) slots) slots

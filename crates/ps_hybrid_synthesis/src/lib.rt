@@ -1,13 +1,16 @@
 // Hybrid synthesis (source document 002, §8.6.4.7): a channel's frame goes into its QMF band's column of an output.
+mod four;
+
 use layout::Layout;
 use layout::ThirtyFour;
 use layout::Twenty;
+ghost use mathlib.Core.Bool.{true};
 ghost use mathlib.Core.Path.{_≡_};
 ghost use Prim.Native.Nat.{_+_, _-_, _*_, _<_, _≤_, min};
 ghost use lib.ListN.{length};
 ghost use Rattle.layout.specs.Numbers.{channelsOf, splitOf, unsplitFromOf};
-ghost use Rattle.ps_hybrid_synthesis.specs.Column.{written, passed, started, added, column, cellAfter, rowsAfter};
-ghost use Rattle.ps_hybrid_synthesis.specs.Loops.{Room, InBand};
+ghost use Rattle.ps_hybrid_synthesis.specs.Column.{written, passed, started, added, column, cellAfter, rowsAfter, fourAfter};
+ghost use Rattle.ps_hybrid_synthesis.specs.Loops.{Room, InBand, allUnsplit, oneBand};
 
 // A split QMF band and the first of its channels.
 struct Band {
@@ -97,8 +100,9 @@ fn unsplit_column(layout: Layout, k: usize) -> usize
 }
 
 // A channel that is its band.
-fn pass(run: &[f64; 64], column: usize, slots: usize, rows: &mut [f64])
+fn pass(run: &[f64], column: usize, slots: usize, rows: &mut [f64])
     requires { ⌜ Room column slots (now rows) ⌝ }
+    requires { ⌜ length (now run) ≡ 64 ⌝ }
     ensures { λ _. ⌜ now (rows .exit) ≡ written (passed (now (run .entry))) column (now (rows .entry)) slots ⌝ }
 {
     for n in 0..slots {
@@ -109,8 +113,9 @@ fn pass(run: &[f64; 64], column: usize, slots: usize, rows: &mut [f64])
 }
 
 // The first channel of a split band. The sum with 0 stays: it makes 0 of -0.
-fn start(run: &[f64; 64], column: usize, slots: usize, rows: &mut [f64])
+fn start(run: &[f64], column: usize, slots: usize, rows: &mut [f64])
     requires { ⌜ Room column slots (now rows) ⌝ }
+    requires { ⌜ length (now run) ≡ 64 ⌝ }
     ensures { λ _. ⌜ now (rows .exit) ≡ written (started (now (run .entry))) column (now (rows .entry)) slots ⌝ }
 {
     for n in 0..slots {
@@ -121,8 +126,9 @@ fn start(run: &[f64; 64], column: usize, slots: usize, rows: &mut [f64])
 }
 
 // Another channel of a split band.
-fn add(run: &[f64; 64], column: usize, slots: usize, rows: &mut [f64])
+fn add(run: &[f64], column: usize, slots: usize, rows: &mut [f64])
     requires { ⌜ Room column slots (now rows) ⌝ }
+    requires { ⌜ length (now run) ≡ 64 ⌝ }
     ensures { λ _. ⌜ now (rows .exit) ≡ written (added (now (run .entry)) (now (rows .entry)) column) column (now (rows .entry)) slots ⌝ }
 {
     for n in 0..slots {
@@ -135,8 +141,9 @@ fn add(run: &[f64; 64], column: usize, slots: usize, rows: &mut [f64])
 }
 
 // A channel of the layout into rows that have room for the slots.
-fn place(layout: Layout, k: usize, run: &[f64; 64], slots: usize, rows: &mut [f64])
+fn place(layout: Layout, k: usize, run: &[f64], slots: usize, rows: &mut [f64])
     requires { ⌜ (k < channelsOf layout) × ((slots ≤ 32) × (128 * slots ≤ length (now rows))) ⌝ }
+    requires { ⌜ length (now run) ≡ 64 ⌝ }
     ensures { λ _. ⌜ now (rows .exit) ≡ written (cellAfter layout k (now (run .entry)) (now (rows .entry))) (column layout k) (now (rows .entry)) slots ⌝ }
 {
     let unsplit = layout.unsplit_from();
@@ -155,8 +162,9 @@ fn place(layout: Layout, k: usize, run: &[f64; 64], slots: usize, rows: &mut [f6
     add(run, column, slots, rows);
 }
 
-// Channel k over at most 32 slots. The channels of a band come in rising order.
-pub fn synthesise(layout: Layout, k: usize, run: &[f64; 64], slots: usize, rows: &mut [f64])
+// Channel k over at most 32 slots, from its run lent.
+fn channel(layout: Layout, k: usize, run: &[f64], slots: usize, rows: &mut [f64])
+    requires { ⌜ length (now run) ≡ 64 ⌝ }
     ensures { λ _. ⌜ now (rows .exit) ≡ rowsAfter layout k (now (run .entry)) (now (rows .entry)) (min slots 32) ⌝ }
 {
     if layout.channels() <= k {
@@ -167,4 +175,93 @@ pub fn synthesise(layout: Layout, k: usize, run: &[f64; 64], slots: usize, rows:
         return;
     }
     place(layout, k, run, count, rows);
+}
+
+// Channel k over at most 32 slots. The channels of a band come in rising order.
+pub fn synthesise(layout: Layout, k: usize, run: &[f64; 64], slots: usize, rows: &mut [f64])
+    ensures { λ _. ⌜ now (rows .exit) ≡ rowsAfter layout k (now (run .entry)) (now (rows .entry)) (min slots 32) ⌝ }
+{
+    channel(layout, k, run, slots, rows);
+}
+
+// The four channels from k on are there, each its own band.
+fn all_unsplit(layout: Layout, k: usize) -> bool
+    requires { ⌜ k < channelsOf layout ⌝ }
+    ensures { λ r. ⌜ r ≡ allUnsplit layout k ⌝ }
+{
+    if k < layout.unsplit_from() {
+        return false;
+    }
+    k + 4 <= layout.channels()
+}
+
+// The four channels from k on are of one split band.
+fn one_band(layout: Layout, k: usize) -> bool
+    requires { ⌜ k < channelsOf layout ⌝ }
+    ensures { λ r. ⌜ r ≡ oneBand layout k ⌝ }
+{
+    if layout.unsplit_from() <= k + 3 {
+        return false;
+    }
+    let band = split_band(layout, k);
+    let last = split_band(layout, k + 3);
+    band.column == last.column
+}
+
+// Four channels of one split band.
+fn sum_four(layout: Layout, k: usize, runs: &[f64; 256], slots: usize, rows: &mut [f64])
+    requires { ⌜ (oneBand layout k ≡ true) × ((slots ≤ 32) × (128 * slots ≤ length (now rows))) ⌝ }
+    ensures { λ _. ⌜ now (rows .exit) ≡ fourAfter layout k (now (runs .entry)) (now (rows .entry)) slots ⌝ }
+{
+    let band = split_band(layout, k);
+    let column = band.column;
+    let first = band.first;
+    if k == first {
+        four::start(runs, column, slots, rows);
+        return;
+    }
+    four::add(runs, column, slots, rows);
+}
+
+// Four channels one after the other.
+fn one_by_one(layout: Layout, k: usize, runs: &[f64], slots: usize, rows: &mut [f64])
+    requires { ⌜ (k < channelsOf layout) × (length (now runs) ≡ 256) ⌝ }
+    ensures { λ _. ⌜ now (rows .exit) ≡ fourAfter layout k (now (runs .entry)) (now (rows .entry)) (min slots 32) ⌝ }
+{
+    channel(layout, k, &runs[0..64], slots, rows);
+    channel(layout, k + 1, &runs[64..128], slots, rows);
+    channel(layout, k + 2, &runs[128..192], slots, rows);
+    channel(layout, k + 3, &runs[192..256], slots, rows);
+}
+
+// Four channels, of which the first is one of the layout's, into rows that have room for the slots.
+fn place_four(layout: Layout, k: usize, runs: &[f64; 256], slots: usize, rows: &mut [f64])
+    requires { ⌜ (k < channelsOf layout) × ((slots ≤ 32) × (128 * slots ≤ length (now rows))) ⌝ }
+    ensures { λ _. ⌜ now (rows .exit) ≡ fourAfter layout k (now (runs .entry)) (now (rows .entry)) slots ⌝ }
+{
+    if all_unsplit(layout, k) {
+        let column = unsplit_column(layout, k);
+        four::pass(runs, column, slots, rows);
+        return;
+    }
+    if one_band(layout, k) {
+        sum_four(layout, k, runs, slots, rows);
+        return;
+    }
+    one_by_one(layout, k, runs, slots, rows);
+}
+
+// Channels k to k + 3 over at most 32 slots, each from its run. They come behind those below k.
+pub fn synthesise_four(layout: Layout, k: usize, runs: &[f64; 256], slots: usize, rows: &mut [f64])
+    ensures { λ _. ⌜ now (rows .exit) ≡ fourAfter layout k (now (runs .entry)) (now (rows .entry)) (min slots 32) ⌝ }
+{
+    if layout.channels() <= k {
+        return;
+    }
+    let count = least(slots, 32);
+    let needed = 128 * count;
+    if rows.len() < needed {
+        return;
+    }
+    place_four(layout, k, runs, count, rows);
 }

@@ -1,10 +1,9 @@
 -- A state that is written and read again is the same state; and what any memory reads as is a state that memory keeps. Assumes nothing.
 use mathlib.Core.Path.{_≡_, refl, sym, ap, _∙_}
-use mathlib.Core.List.{List, [], _∷_, _++_, append-assoc, append-nil}
+use mathlib.Core.List.{List, [], _∷_, _++_, append-nil}
 use mathlib.Core.Bool.{false}
 use Prim.Native.Nat.{ℕ, suc, _+_, _≤_}
 use native.Mathlib.Omega.{arith}
-use borrow.Author.Tests.{eq-eqb}
 use lib.ListN.{length, take, drop, length-append}
 use lib.Seq.{take-at, drop-at, drop-drop}
 use lib.Ieee.{Float}
@@ -24,7 +23,7 @@ use Rattle.ps_state.specs.Shape.{Shaped}
 use Rattle.ps_state.specs.State.{freshDecoder}
 use Rattle.ps_stereo.specs.declared.PsStereo.{PsStereo}
 use Rattle.ps_memory.specs.Packed.{packed}
-use Rattle.ps_memory.specs.Place.{layoutIn, wide, slotsIn, headImage, rowOf, rowImage, indicesOf, indicesImage, delaysImage, decorrOf, decorrImage, stereoOf, stereoImage, soundImage, image, loaded, loadOf}
+use Rattle.ps_memory.specs.Place.{layoutIn, wide, slotsIn, headImage, rowOf, rowImage, indicesOf, indicesImage, decorrIn, decorrImage, stereoOf, stereoImage, soundImage, image, loaded}
 use Rattle.ps_memory.specs.Shape.{Narrow, RowKept, IndicesKept, StateKept}
 use Rattle.ps_memory.proofs.Narrow.{packed-length, packed-back, unpacked-length, unpacked-narrow}
 
@@ -108,24 +107,25 @@ module _ (s : PsDecoder) (shape : Shaped s) where
   abbrev t : PsStereo
   t = s .stereo
 
-  delays-long : length (delaysImage d) ≡ 1794
-  unfolding delaysImage
-  delays-long = omega (arith, length-append (d .delays) (d .long ++ d .short), length-append (d .long) (d .short), shape .delays, shape .long, shape .short)
-
   decorr-long : length (decorrImage d) ≡ 1896
   unfolding decorrImage
-  decorr-long = omega (arith, length-append (delaysImage d) (d .detectors), delays-long, shape .detectors)
+  decorr-long =
+      omega (
+        arith,
+        length-append (d .delays) (d .long ++ (d .short ++ d .detectors)),
+        length-append (d .long) (d .short ++ d .detectors),
+        length-append (d .short) (d .detectors),
+        shape .delays,
+        shape .long,
+        shape .short,
+        shape .detectors,
+      )
 
-  -- without the brackets around the delays
-  decorr-flat : decorrImage d ≡ d .delays ++ (d .long ++ (d .short ++ d .detectors))
-  unfolding decorrImage delaysImage
-  decorr-flat = simp append-assoc
-
-  decorr-back : decorrOf (decorrImage d) ≡ d
-  unfolding decorrOf
+  decorr-back : decorrIn (decorrImage d) ≡ d
+  unfolding decorrIn decorrImage
   decorr-back =
       let m = decorrImage d in
-      let delays = next m (d .delays) (d .long ++ (d .short ++ d .detectors)) 0 1400 1400 decorr-flat (shape .delays) refl in
+      let delays = next m (d .delays) (d .long ++ (d .short ++ d .detectors)) 0 1400 1400 refl (shape .delays) refl in
       let long = next m (d .long) (d .short ++ d .detectors) 1400 336 1736 (delays .then) (shape .long) refl in
       let short = next m (d .short) (d .detectors) 1736 58 1794 (long .then) (shape .short) refl in
       rw (← delays .here, ← long .here, ← short .here, ← last m (d .detectors) 1794 102 (short .then) (shape .detectors))
@@ -145,21 +145,21 @@ module _ (s : PsDecoder) (shape : Shaped s) where
         packed-back 68 (t .phases) (shape .phases) narrow,
       )
 
-  sound-long : length (soundImage s) ≡ 2296
+  sound-long : length (soundImage (s .history) d t) ≡ 2296
   unfolding soundImage
   sound-long =
       omega (arith, length-append (s .history) (decorrImage d ++ stereoImage t), length-append (decorrImage d) (stereoImage t), shape .history, decorr-long, stereo-long)
 
   pub image-length : length (image s) ≡ 2372
   unfolding image headImage
-  image-length = omega (arith, length-append (indicesImage (s .indices)) (soundImage s), indices-long (s .indices), sound-long)
+  image-length = omega (arith, length-append (indicesImage (s .indices)) (soundImage (s .history) d t), indices-long (s .indices), sound-long)
 
 -- ---- a whole state
 
 module _ (s : PsDecoder) (kept : StateKept s) where
-  loaded-image : loaded (image s) ≡ s
+  pub load-image : loaded (image s) ≡ s
   unfolding loaded image headImage soundImage
-  loaded-image =
+  load-image =
       let shape = kept .shape in
       let m = image s in
       let i = indicesImage (s .indices) in
@@ -183,10 +183,6 @@ module _ (s : PsDecoder) (kept : StateKept s) where
         slots-back (s .asked) (kept .fewest) (kept .most),
       )
 
-  pub load-image : loadOf (image s) ≡ s
-  unfolding loadOf
-  load-image = rw (eq-eqb (length (image s)) 2372 (image-length s (kept .shape))) loaded-image
-
 -- the slots are kept as they act
 pub image-fresh : (asked : ℕ) → image (freshDecoder asked) ≡ image (freshDecoder (slotsOf asked))
 unfolding image headImage soundImage
@@ -198,7 +194,7 @@ image-fresh asked = ap (λ (n : ℕ). fresh-image n) same
         ∷ keptFlag false
         ∷ keptFlag false
         ∷ keptNumber n
-        ∷ (indicesImage freshIndices ++ soundImage (freshDecoder 0))
+        ∷ (indicesImage freshIndices ++ soundImage (freshDecoder 0 .history) (freshDecoder 0 .decorr) (freshDecoder 0 .stereo))
 
     same : slotsOf asked ≡ slotsOf (slotsOf asked)
     same = omega arith
@@ -209,11 +205,10 @@ row-kept : (m : List Float) → RowKept (rowOf m)
 unfolding rowOf
 row-kept m = record { count = number-within 34 _; long = unpacked-length 17 (part 1 17 m); narrow = unpacked-narrow 17 (part 1 17 m) }
 
-pub loaded-kept : (m : List Float) → length m ≡ 2372 → StateKept (loadOf m)
-unfolding loadOf loaded indicesOf decorrOf stereoOf
+pub loaded-kept : (m : List Float) → length m ≡ 2372 → StateKept (loaded m)
+unfolding loaded indicesOf decorrIn stereoOf
 loaded-kept m l =
-    rw (eq-eqb (length m) 2372 l)
-    (record {
+    record {
       fewest = omega arith;
       most = omega arith;
       shape =
@@ -228,7 +223,7 @@ loaded-kept m l =
           };
       indices = record { iid = row-kept _; icc = row-kept _; ipd = row-kept _; opd = row-kept _ };
       phases = unpacked-narrow 68 (part 272 68 (part 2032 340 m));
-    })
+    }
   where
     within : (a k b j : ℕ) → a + k ≤ length m → b + j ≤ k → length (part b j (part a k m)) ≡ j
     within a k b j h u = part-length b j (part a k m) (rw (part-length a k m h) u)

@@ -15,7 +15,7 @@ use Rattle.ps_rows.specs.declared.Row.{Row}
 use Rattle.ps_state.specs.declared.PsDecoder.{PsDecoder}
 use Rattle.ps_stereo.specs.declared.PsStereo.{PsStereo}
 use Rattle.ps_memory.specs.Packed.{packed}
-use Rattle.ps_memory.specs.Place.{headImage, rowImage, indicesImage, delaysImage, decorrImage, stereoImage, soundImage, image}
+use Rattle.ps_memory.specs.Place.{headImage, rowImage, indicesImage, decorrImage, stereoImage, soundImage, image}
 
 -- four stores into four places
 pub four : (m : List Float) (a b c d : Float) → length m ≡ 4 → set (set (set (set m 0 a) 1 b) 2 c) 3 d ≡ a ∷ b ∷ c ∷ d ∷ []
@@ -41,18 +41,14 @@ indices-laid s m a b c d l ea eb ec ed =
     let icc = placed m _ (c ++ d) b 18 18 36 ipd refl (omega arith) in
     placed m _ (b ++ (c ++ d)) a 0 18 18 icc refl (omega arith) ∙ rw (ea, eb, ec, ed)
 
-pub delays-laid : (s : PsDecorr) (m a b c : List Float) → length m ≡ 1794 → a ≡ s .delays → b ≡ s .long → c ≡ s .short
-    → put 0 1400 (put 1400 336 (put 1736 58 m c) b) a ≡ delaysImage s
-unfolding delaysImage
-delays-laid s m a b c l ea eb ec =
-    let short = tail-back 1736 58 m c (omega arith) in
-    let long = placed m _ c b 1400 336 1736 short refl (omega arith) in
-    placed m _ (b ++ c) a 0 1400 1400 long refl (omega arith) ∙ rw (ea, eb, ec)
-
-pub decorr-laid : (s : PsDecorr) (m a b : List Float) → length m ≡ 1896 → a ≡ delaysImage s → b ≡ s .detectors
-    → put 0 1794 (put 1794 102 m b) a ≡ decorrImage s
+pub decorr-laid : (s : PsDecorr) (m a b c d : List Float) → length m ≡ 1896 → a ≡ s .delays → b ≡ s .long → c ≡ s .short → d ≡ s .detectors
+    → put 0 1400 (put 1400 336 (put 1736 58 (put 1794 102 m d) c) b) a ≡ decorrImage s
 unfolding decorrImage
-decorr-laid s m a b l ea eb = placed m _ b a 0 1794 1794 (tail-back 1794 102 m b (omega arith)) refl (omega arith) ∙ rw (ea, eb)
+decorr-laid s m a b c d l ea eb ec ed =
+    let detectors = tail-back 1794 102 m d (omega arith) in
+    let short = placed m _ d c 1736 58 1794 detectors refl (omega arith) in
+    let long = placed m _ (c ++ d) b 1400 336 1736 short refl (omega arith) in
+    placed m _ (b ++ (c ++ d)) a 0 1400 1400 long refl (omega arith) ∙ rw (ea, eb, ec, ed)
 
 pub stereo-laid : (s : PsStereo) (m a b : List Float) → length m ≡ 340 → a ≡ s .matrices → b ≡ packed (length (part 272 68 m)) (s .phases)
     → put 0 272 (put 272 68 m b) a ≡ stereoImage s
@@ -61,16 +57,17 @@ stereo-laid s m a b l ea eb =
     placed m _ b a 0 272 272 (tail-back 272 68 m b (omega arith)) refl (omega arith)
     ∙ ap₂ (λ (x y : List Float). x ++ y) ea (eb ∙ ap (λ (n : ℕ). packed n (s .phases)) (part-length 272 68 m (omega arith)))
 
-pub sound-laid : (s : PsDecoder) (m a b c : List Float) → length m ≡ 2296
-    → a ≡ s .history → b ≡ decorrImage (s .decorr) → c ≡ stereoImage (s .stereo)
-    → put 0 60 (put 60 1896 (put 1956 340 m c) b) a ≡ soundImage s
+pub sound-laid : (history : List Float) (decorr : PsDecorr) (stereo : PsStereo) (m a b c : List Float) → length m ≡ 2296
+    → a ≡ history → b ≡ decorrImage decorr → c ≡ stereoImage stereo
+    → put 0 60 (put 60 1896 (put 1956 340 m c) b) a ≡ soundImage history decorr stereo
 unfolding soundImage
-sound-laid s m a b c l ea eb ec =
-    let stereo = tail-back 1956 340 m c (omega arith) in
-    let decorr = placed m _ c b 60 1896 1956 stereo refl (omega arith) in
-    placed m _ (b ++ c) a 0 60 60 decorr refl (omega arith) ∙ rw (ea, eb, ec)
+sound-laid history decorr stereo m a b c l ea eb ec =
+    let mixing = tail-back 1956 340 m c (omega arith) in
+    let delayed = placed m _ c b 60 1896 1956 mixing refl (omega arith) in
+    placed m _ (b ++ c) a 0 60 60 delayed refl (omega arith) ∙ rw (ea, eb, ec)
 
-pub whole-laid : (s : PsDecoder) (m a b c : List Float) → length m ≡ 2372 → a ≡ headImage s → b ≡ indicesImage (s .indices) → c ≡ soundImage s
+pub whole-laid : (s : PsDecoder) (m a b c : List Float) → length m ≡ 2372 → a ≡ headImage (s .layout) (s .configured) (s .cued) (s .asked)
+    → b ≡ indicesImage (s .indices) → c ≡ soundImage (s .history) (s .decorr) (s .stereo)
     → put 0 4 (put 4 72 (put 76 2296 m c) b) a ≡ image s
 unfolding image
 whole-laid s m a b c l ea eb ec =

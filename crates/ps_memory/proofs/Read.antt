@@ -12,12 +12,13 @@ use Rattle.layout.specs.declared.Layout.{Layout}
 use Rattle.lists.specs.Part.{part}
 use Rattle.lists.proofs.Parts.{part-length}
 use Rattle.ps_data.specs.declared.PsIndexState.{PsIndexState}
-use Rattle.ps_decorr.specs.declared.PsDecorr.{PsDecorr}
+use Rattle.ps_decorr.specs.State.{decorrOf}
 use Rattle.ps_rows.specs.declared.Row.{Row}
-use Rattle.ps_state.specs.declared.PsDecoder.{PsDecoder}
+use Rattle.ps_state.specs.declared.PsCarried.{PsCarried}
+use Rattle.ps_state.specs.State.{decoderOf}
 use Rattle.ps_stereo.specs.declared.PsStereo.{PsStereo}
 use Rattle.ps_memory.specs.Packed.{unpacked}
-use Rattle.ps_memory.specs.Place.{layoutIn, slotsIn, rowOf, indicesOf, decorrOf, stereoOf, loaded}
+use Rattle.ps_memory.specs.Place.{layoutIn, slotsIn, rowOf, indicesOf, decorrIn, stereoOf, carriedOf, loaded}
 
 pub row-read : (m : List Float) (at : List ℤ) (used : ℕ) → length m ≡ 18 → at ≡ unpacked (length (part 1 17 m)) (part 1 17 m) → used ≡ numberIn 34 (getD m 0 nan)
     → _≡_ {A = Row} (record { at = at; used = used }) (rowOf m)
@@ -31,8 +32,8 @@ unfolding indicesOf
 indices-read m a b c d ea eb ec ed = rw (ea, eb, ec, ed)
 
 pub decorr-read : (m a b c d : List Float) → a ≡ part 0 1400 m → b ≡ part 1400 336 m → c ≡ part 1736 58 m → d ≡ part 1794 102 m
-    → _≡_ {A = PsDecorr} (record { delays = a; long = b; short = c; detectors = d }) (decorrOf m)
-unfolding decorrOf
+    → decorrOf a b c d ≡ decorrIn m
+unfolding decorrIn
 decorr-read m a b c d ea eb ec ed = rw (ea, eb, ec, ed)
 
 pub stereo-read : (m a : List Float) (b : List ℤ) → length m ≡ 340 → a ≡ part 0 272 m → b ≡ unpacked (length (part 272 68 m)) (part 272 68 m)
@@ -40,20 +41,17 @@ pub stereo-read : (m a : List Float) (b : List ℤ) → length m ≡ 340 → a �
 unfolding stereoOf
 stereo-read m a b l ea eb = rw (ea, eb, part-length 272 68 m (omega arith))
 
-pub whole-read : (m : List Float) (asked : ℕ) (layout : Layout) (configured cued : Bool) (indices : PsIndexState) (history : List Float) (decorr : PsDecorr)
-    (stereo : PsStereo) → asked ≡ slotsIn (getD m 3 nan) → layout ≡ layoutIn (getD m 0 nan) → configured ≡ flagIn (getD m 1 nan) → cued ≡ flagIn (getD m 2 nan)
-    → indices ≡ indicesOf (part 4 72 m) → history ≡ part 76 60 m → decorr ≡ decorrOf (part 136 1896 m) → stereo ≡ stereoOf (part 2032 340 m)
-    → _≡_ {A = PsDecoder}
-    (record {
-      asked = asked;
-      layout = layout;
-      configured = configured;
-      cued = cued;
-      indices = indices;
-      history = history;
-      decorr = decorr;
-      stereo = stereo;
-    })
-    (loaded m)
+pub carried-read : (m : List Float) (asked : ℕ) (layout : Layout) (configured cued : Bool) (indices : PsIndexState) (stereo : PsStereo)
+    → asked ≡ slotsIn (getD m 3 nan) → layout ≡ layoutIn (getD m 0 nan) → configured ≡ flagIn (getD m 1 nan) → cued ≡ flagIn (getD m 2 nan)
+    → indices ≡ indicesOf (part 4 72 m) → stereo ≡ stereoOf (part 2032 340 m)
+    → _≡_ {A = PsCarried}
+    (record { asked = asked; layout = layout; configured = configured; cued = cued; indices = indices; stereo = stereo })
+    (carriedOf (loaded m))
 unfolding loaded
-whole-read m asked layout configured cued indices history decorr stereo ea el ef ec ei eh ed es = rw (ea, el, ef, ec, ei, eh, ed, es)
+carried-read m asked layout configured cued indices stereo ea el ef ec ei es = rw (ea, el, ef, ec, ei, es)
+
+pub whole-read : (m : List Float) (r : PsCarried) (history delays long short detectors : List Float)
+    → r ≡ carriedOf (loaded m) → history ≡ part 76 60 m → decorrOf delays long short detectors ≡ decorrIn (part 136 1896 m)
+    → decoderOf r history delays long short detectors ≡ loaded m
+unfolding loaded
+whole-read m r history delays long short detectors er eh ed = rw (er, eh, ed)

@@ -17,8 +17,9 @@ use Rattle.lists.specs.Part.{part}
 use Rattle.ps_data.specs.declared.PsIndexState.{PsIndexState}
 use Rattle.ps_decorr.specs.declared.PsDecorr.{PsDecorr}
 use Rattle.ps_rows.specs.declared.Row.{Row}
+use Rattle.ps_state.specs.declared.PsCarried.{PsCarried}
 use Rattle.ps_state.specs.declared.PsDecoder.{PsDecoder}
-use Rattle.ps_state.specs.State.{freshDecoder}
+use Rattle.ps_state.specs.State.{decoderOf, freshDecoder}
 use Rattle.ps_stereo.specs.declared.PsStereo.{PsStereo}
 use Rattle.ps_memory.specs.Packed.{packed, unpacked}
 
@@ -35,8 +36,8 @@ wide Bands34 = true
 abbrev pub slotsIn : Float → ℕ
 slotsIn x = slotsOf (numberIn 32 x)
 
-unfoldable pub headImage : PsDecoder → List Float
-headImage s = keptFlag (wide (s .layout)) ∷ keptFlag (s .configured) ∷ keptFlag (s .cued) ∷ keptNumber (slotsOf (s .asked)) ∷ []
+unfoldable pub headImage : Layout → Bool → Bool → ℕ → List Float
+headImage layout configured cued asked = keptFlag (wide layout) ∷ keptFlag configured ∷ keptFlag cued ∷ keptNumber (slotsOf asked) ∷ []
 
 -- ---- the rows kept
 
@@ -54,14 +55,11 @@ indicesImage s = rowImage (s .iid) ++ (rowImage (s .icc) ++ (rowImage (s .ipd) +
 
 -- ---- sound
 
-unfoldable pub decorrOf : List Float → PsDecorr
-decorrOf m = record { delays = part 0 1400 m; long = part 1400 336 m; short = part 1736 58 m; detectors = part 1794 102 m }
-
-unfoldable pub delaysImage : PsDecorr → List Float
-delaysImage s = s .delays ++ (s .long ++ s .short)
+unfoldable pub decorrIn : List Float → PsDecorr
+decorrIn m = record { delays = part 0 1400 m; long = part 1400 336 m; short = part 1736 58 m; detectors = part 1794 102 m }
 
 unfoldable pub decorrImage : PsDecorr → List Float
-decorrImage s = delaysImage s ++ s .detectors
+decorrImage s = s .delays ++ (s .long ++ (s .short ++ s .detectors))
 
 unfoldable pub stereoOf : List Float → PsStereo
 stereoOf m = record { matrices = part 0 272 m; phases = unpacked 68 (part 272 68 m) }
@@ -69,14 +67,15 @@ stereoOf m = record { matrices = part 0 272 m; phases = unpacked 68 (part 272 68
 unfoldable pub stereoImage : PsStereo → List Float
 stereoImage s = s .matrices ++ packed 68 (s .phases)
 
-unfoldable pub soundImage : PsDecoder → List Float
-soundImage s = s .history ++ (decorrImage (s .decorr) ++ stereoImage (s .stereo))
+unfoldable pub soundImage : List Float → PsDecorr → PsStereo → List Float
+soundImage history decorr stereo = history ++ (decorrImage decorr ++ stereoImage stereo)
 
 -- ---- a whole state
 
 -- the memory of a state
 unfoldable pub image : PsDecoder → List Float
-image s = headImage s ++ (indicesImage (s .indices) ++ soundImage s)
+image s =
+    headImage (s .layout) (s .configured) (s .cued) (s .asked) ++ (indicesImage (s .indices) ++ soundImage (s .history) (s .decorr) (s .stereo))
 
 -- the state that 2,372 numbers hold
 unfoldable pub loaded : List Float → PsDecoder
@@ -88,13 +87,21 @@ loaded m =
       cued = flagIn (getD m 2 nan);
       indices = indicesOf (part 4 72 m);
       history = part 76 60 m;
-      decorr = decorrOf (part 136 1896 m);
+      decorr = decorrIn (part 136 1896 m);
       stereo = stereoOf (part 2032 340 m);
     }
 
--- a memory of another length holds a fresh decoder, and is left as it is
-unfoldable pub loadOf : List Float → PsDecoder
-loadOf m = cond (eqb (length m) 2372) (loaded m) (freshDecoder 32)
+-- what is small in a state
+abbrev pub carriedOf : PsDecoder → PsCarried
+carriedOf s =
+    record { asked = s .asked; layout = s .layout; configured = s .configured; cued = s .cued; indices = s .indices; stereo = s .stereo }
+
+abbrev pub freshCarried : PsCarried
+freshCarried = carriedOf (freshDecoder 32)
+
+-- loaded over five arrays of sound: a memory of another length leaves them, with what is small in a fresh decoder, and is left as it is
+unfoldable pub loadOver : List Float → List Float → List Float → List Float → List Float → List Float → PsDecoder
+loadOver m history delays long short detectors = cond (eqb (length m) 2372) (loaded m) (decoderOf freshCarried history delays long short detectors)
 
 unfoldable pub storedIn : PsDecoder → List Float → List Float
 storedIn s m = cond (eqb (length m) 2372) (image s) m

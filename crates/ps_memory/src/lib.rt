@@ -3,10 +3,11 @@ mod indices;
 mod sound;
 
 use layout::Layout;
-use ps_state::PsDecoder;
+use ps_state::PsCarried;
 ghost use mathlib.Core.Path.{_≡_};
 ghost use lib.ListN.{length};
-ghost use Rattle.ps_memory.specs.Place.{layoutIn, wide, slotsIn, headImage, loaded, image, loadOf, storedIn};
+ghost use Rattle.ps_state.specs.State.{decoderOf};
+ghost use Rattle.ps_memory.specs.Place.{layoutIn, wide, slotsIn, headImage, carriedOf, freshCarried, loaded, image, loadOver, storedIn};
 
 // How many numbers a state takes.
 pub fn numbers() -> usize
@@ -35,15 +36,14 @@ fn is_wide(layout: Layout) -> bool
 }
 
 // The four single numbers. The slots are kept as they act, 6 to 32.
-fn store_head(state: PsDecoder, to: &mut [f64])
+fn store_head(layout: Layout, configured: bool, cued: bool, asked: usize, to: &mut [f64])
     requires { ⌜ length (now to) ≡ 4 ⌝ }
-    ensures { λ _. ⌜ now (to .exit) ≡ headImage state ⌝ }
+    ensures { λ _. ⌜ now (to .exit) ≡ headImage layout configured cued asked ⌝ }
 {
-    let layout = state.layout;
     to[0] = exact_numbers::kept_flag(is_wide(layout));
-    to[1] = exact_numbers::kept_flag(state.configured);
-    to[2] = exact_numbers::kept_flag(state.cued);
-    to[3] = exact_numbers::kept_number(borders::slots(state.asked) as u16);
+    to[1] = exact_numbers::kept_flag(configured);
+    to[2] = exact_numbers::kept_flag(cued);
+    to[3] = exact_numbers::kept_number(borders::slots(asked) as u16);
 }
 
 fn slots_in(x: f64) -> usize
@@ -52,47 +52,104 @@ fn slots_in(x: f64) -> usize
     borders::slots(exact_numbers::number(x, 32) as usize)
 }
 
-fn load_whole(memory: &[f64]) -> PsDecoder
+// What is small in the state that a memory holds, and in a fresh one.
+fn load_carried(memory: &[f64]) -> PsCarried
     requires { ⌜ length (now memory) ≡ 2372 ⌝ }
-    ensures { λ r. ⌜ r ≡ loaded (now (memory .entry)) ⌝ }
+    ensures { λ r. ⌜ r ≡ carriedOf (loaded (now (memory .entry))) ⌝ }
 {
-    PsDecoder {
+    PsCarried {
         asked: slots_in(memory[3]),
         layout: layout_in(memory[0]),
         configured: exact_numbers::flag(memory[1]),
         cued: exact_numbers::flag(memory[2]),
         indices: indices::load_indices(&memory[4..76]),
-        history: sound::load_history(&memory[76..136]),
-        decorr: sound::load_decorr(&memory[136..2032]),
         stereo: sound::load_stereo(&memory[2032..2372]),
     }
 }
 
-fn store_whole(state: PsDecoder, memory: &mut [f64])
-    requires { ⌜ length (now memory) ≡ 2372 ⌝ }
-    ensures { λ _. ⌜ now (memory .exit) ≡ image state ⌝ }
+fn fresh_carried() -> PsCarried
+    ensures { λ r. ⌜ r ≡ freshCarried ⌝ }
 {
-    sound::store_sound(state, &mut memory[76..2372]);
-    let indices = state.indices;
-    indices::store_indices(indices, &mut memory[4..76]);
-    store_head(state, &mut memory[0..4]);
+    PsCarried {
+        asked: 32,
+        layout: Layout::Bands20,
+        configured: false,
+        cued: false,
+        indices: ps_data::fresh(),
+        stereo: ps_stereo::fresh(),
+    }
 }
 
-// The state that a memory holds; a memory of another length holds a fresh one.
-pub fn load(memory: &[f64]) -> PsDecoder
-    ensures { λ r. ⌜ r ≡ loadOf (now (memory .entry)) ⌝ }
+// The state that a memory holds. A memory of another length gives what is small in a fresh one, and leaves the arrays as they are.
+pub fn load(
+    memory: &[f64],
+    history: &mut [f64; 60],
+    delays: &mut [f64; 1400],
+    long: &mut [f64; 336],
+    short: &mut [f64; 58],
+    detectors: &mut [f64; 102],
+) -> PsCarried
+    ensures { λ r. ⌜ decoderOf r (now (history .exit)) (now (delays .exit)) (now (long .exit)) (now (short .exit)) (now (detectors .exit))
+        ≡ loadOver (now (memory .entry)) (now (history .entry)) (now (delays .entry)) (now (long .entry)) (now (short .entry)) (now (detectors .entry)) ⌝ }
 {
     if memory.len() != 2372 {
-        return ps_state::fresh(32);
+        return fresh_carried();
     }
-    load_whole(memory)
+    sound::copy(&memory[76..136], history);
+    sound::load_decorr(&memory[136..2032], delays, long, short, detectors);
+    load_carried(memory)
+}
+
+fn store_whole(
+    carried: PsCarried,
+    history: &[f64; 60],
+    delays: &[f64; 1400],
+    long: &[f64; 336],
+    short: &[f64; 58],
+    detectors: &[f64; 102],
+    memory: &mut [f64],
+)
+    requires { ⌜ length (now memory) ≡ 2372 ⌝ }
+    ensures { λ _. ⌜ now (memory .exit)
+        ≡ image (decoderOf carried (now (history .entry)) (now (delays .entry)) (now (long .entry)) (now (short .entry)) (now (detectors .entry))) ⌝ }
+{
+    let stereo = carried.stereo;
+    sound::store_sound(
+        history,
+        delays,
+        long,
+        short,
+        detectors,
+        stereo,
+        &mut memory[76..2372],
+    );
+    let indices = carried.indices;
+    indices::store_indices(indices, &mut memory[4..76]);
+    let layout = carried.layout;
+    store_head(
+        layout,
+        carried.configured,
+        carried.cued,
+        carried.asked,
+        &mut memory[0..4],
+    );
 }
 
 // Makes memory that of a state; a memory of another length is left as it is.
-pub fn store(state: PsDecoder, memory: &mut [f64])
-    ensures { λ _. ⌜ now (memory .exit) ≡ storedIn state (now (memory .entry)) ⌝ }
+pub fn store(
+    carried: PsCarried,
+    history: &[f64; 60],
+    delays: &[f64; 1400],
+    long: &[f64; 336],
+    short: &[f64; 58],
+    detectors: &[f64; 102],
+    memory: &mut [f64],
+)
+    ensures { λ _. ⌜ now (memory .exit)
+        ≡ storedIn (decoderOf carried (now (history .entry)) (now (delays .entry)) (now (long .entry)) (now (short .entry)) (now (detectors .entry)))
+        (now (memory .entry)) ⌝ }
 {
     if memory.len() == 2372 {
-        store_whole(state, memory);
+        store_whole(carried, history, delays, long, short, detectors, memory);
     }
 }

@@ -1,13 +1,12 @@
 // The numbers of sound in lent memory: histories, delays, detectors and coefficients, each as it is.
 use super::indices;
-use ps_decorr::PsDecorr;
-use ps_state::PsDecoder;
 use ps_stereo::PsStereo;
 ghost use mathlib.Core.Path.{_≡_};
 ghost use lib.ListN.{length};
-ghost use Rattle.ps_memory.specs.Place.{decorrOf, delaysImage, decorrImage, stereoOf, stereoImage, soundImage};
+ghost use Rattle.ps_decorr.specs.State.{decorrOf};
+ghost use Rattle.ps_memory.specs.Place.{decorrIn, decorrImage, stereoOf, stereoImage, soundImage};
 
-fn copy(from: &[f64], to: &mut [f64])
+pub fn copy(from: &[f64], to: &mut [f64])
     requires { ⌜ length (now from) ≡ length (now to) ⌝ }
     ensures { λ _. ⌜ now (to .exit) ≡ now (from .entry) ⌝ }
 {
@@ -18,50 +17,37 @@ fn copy(from: &[f64], to: &mut [f64])
     }
 }
 
-pub fn load_history(from: &[f64]) -> [f64; 60]
-    requires { ⌜ length (now from) ≡ 60 ⌝ }
-    ensures { λ r. ⌜ r ≡ now (from .entry) ⌝ }
-{
-    let mut history = [0.0; 60];
-    copy(from, &mut history);
-    history
-}
-
-pub fn load_decorr(from: &[f64]) -> PsDecorr
+// The arrays of de-correlation out of memory, and into it.
+pub fn load_decorr(
+    from: &[f64],
+    delays: &mut [f64; 1400],
+    long: &mut [f64; 336],
+    short: &mut [f64; 58],
+    detectors: &mut [f64; 102],
+)
     requires { ⌜ length (now from) ≡ 1896 ⌝ }
-    ensures { λ r. ⌜ r ≡ decorrOf (now (from .entry)) ⌝ }
+    ensures { λ _. ⌜ decorrOf (now (delays .exit)) (now (long .exit)) (now (short .exit)) (now (detectors .exit)) ≡ decorrIn (now (from .entry)) ⌝ }
 {
-    let mut delays = [0.0; 1400];
-    copy(&from[0..1400], &mut delays);
-    let mut long = [0.0; 336];
-    copy(&from[1400..1736], &mut long);
-    let mut short = [0.0; 58];
-    copy(&from[1736..1794], &mut short);
-    let mut detectors = [0.0; 102];
-    copy(&from[1794..1896], &mut detectors);
-    PsDecorr {
-        delays: delays,
-        long: long,
-        short: short,
-        detectors: detectors,
-    }
+    copy(&from[0..1400], delays);
+    copy(&from[1400..1736], long);
+    copy(&from[1736..1794], short);
+    copy(&from[1794..1896], detectors);
 }
 
-fn store_delays(decorr: PsDecorr, to: &mut [f64])
-    requires { ⌜ length (now to) ≡ 1794 ⌝ }
-    ensures { λ _. ⌜ now (to .exit) ≡ delaysImage decorr ⌝ }
-{
-    copy(&decorr.short, &mut to[1736..1794]);
-    copy(&decorr.long, &mut to[1400..1736]);
-    copy(&decorr.delays, &mut to[0..1400]);
-}
-
-fn store_decorr(decorr: PsDecorr, to: &mut [f64])
+fn store_decorr(
+    delays: &[f64; 1400],
+    long: &[f64; 336],
+    short: &[f64; 58],
+    detectors: &[f64; 102],
+    to: &mut [f64],
+)
     requires { ⌜ length (now to) ≡ 1896 ⌝ }
-    ensures { λ _. ⌜ now (to .exit) ≡ decorrImage decorr ⌝ }
+    ensures { λ _. ⌜ now (to .exit) ≡ decorrImage (decorrOf (now (delays .entry)) (now (long .entry)) (now (short .entry)) (now (detectors .entry))) ⌝ }
 {
-    copy(&decorr.detectors, &mut to[1794..1896]);
-    store_delays(decorr, &mut to[0..1794]);
+    copy(detectors, &mut to[1794..1896]);
+    copy(short, &mut to[1736..1794]);
+    copy(long, &mut to[1400..1736]);
+    copy(delays, &mut to[0..1400]);
 }
 
 pub fn load_stereo(from: &[f64]) -> PsStereo
@@ -86,13 +72,20 @@ fn store_stereo(stereo: PsStereo, to: &mut [f64])
     copy(&stereo.matrices, &mut to[0..272]);
 }
 
-pub fn store_sound(state: PsDecoder, to: &mut [f64])
+pub fn store_sound(
+    history: &[f64; 60],
+    delays: &[f64; 1400],
+    long: &[f64; 336],
+    short: &[f64; 58],
+    detectors: &[f64; 102],
+    stereo: PsStereo,
+    to: &mut [f64],
+)
     requires { ⌜ length (now to) ≡ 2296 ⌝ }
-    ensures { λ _. ⌜ now (to .exit) ≡ soundImage state ⌝ }
+    ensures { λ _. ⌜ now (to .exit)
+        ≡ soundImage (now (history .entry)) (decorrOf (now (delays .entry)) (now (long .entry)) (now (short .entry)) (now (detectors .entry))) stereo ⌝ }
 {
-    let stereo = state.stereo;
     store_stereo(stereo, &mut to[1956..2296]);
-    let decorr = state.decorr;
-    store_decorr(decorr, &mut to[60..1956]);
-    copy(&state.history, &mut to[0..60]);
+    store_decorr(delays, long, short, detectors, &mut to[60..1956]);
+    copy(history, &mut to[0..60]);
 }

@@ -15,14 +15,29 @@ use Rattle.lists.specs.Part.{part}
 use Rattle.lists.specs.Rows.{rows}
 use Rattle.planar.specs.Window.{imageOf, historyOf}
 use Rattle.ps_data.specs.Indices.{freshIndices}
-use Rattle.ps_decorr.specs.State.{freshDecorr}
+use Rattle.ps_decorr.specs.State.{decorrOf, freshDecorr}
 use Rattle.ps_decorr.specs.Channels.{channelIn, delaysWith, longWith, shortWith, detectorsWith}
 use Rattle.ps_decorr_transient.specs.Gains.{detectorOf}
 use Rattle.ps_stereo.specs.State.{freshStereo}
 use Rattle.ps_stereo.specs.Kept.{keptIn, stereoWith}
 use Rattle.standard.specs.Numbers.{zero}
 use Rattle.standard.specs.Core.{Core}
+use Rattle.ps_state.specs.declared.PsCarried.{PsCarried}
 use Rattle.ps_state.specs.declared.PsDecoder.{PsDecoder}
+
+-- the state whose small part goes by value, and whose arrays of sound are lent
+abbrev pub decoderOf : PsCarried → List Float → List Float → List Float → List Float → List Float → PsDecoder
+decoderOf s history delays long short detectors =
+    record {
+      asked = s .asked;
+      layout = s .layout;
+      configured = s .configured;
+      cued = s .cued;
+      indices = s .indices;
+      history = history;
+      decorr = decorrOf delays long short detectors;
+      stereo = s .stereo;
+    }
 
 -- every delay silent, every detector calm, no coefficients, no rows
 abbrev pub freshDecoder : ℕ → PsDecoder

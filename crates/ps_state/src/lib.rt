@@ -5,7 +5,7 @@ use ps_decorr::PsDecorr;
 use ps_stereo::PsStereo;
 ghost use mathlib.Core.Path.{_≡_};
 ghost use Rattle.standard.specs.Core.{sameLayout};
-ghost use Rattle.ps_state.specs.State.{freshDecoder};
+ghost use Rattle.ps_state.specs.State.{freshDecoder, decoderOf};
 ghost use Rattle.ps_state.specs.Ready.{switchedFrom, clearedPlace, readied};
 
 pub struct PsDecoder {
@@ -53,24 +53,46 @@ fn same(a: Layout, b: Layout) -> bool
     }
 }
 
+// What is small in a state goes by value; its five arrays of sound are lent, so that no call copies them.
+pub struct PsCarried {
+    pub asked: usize,
+    pub layout: Layout,
+    pub configured: bool,
+    pub cued: bool,
+    pub indices: PsIndexState,
+    pub stereo: PsStereo,
+}
+
 // A change of layout resets the hybrid history and the whole de-correlator, and remaps the held coefficients.
-fn switched(state: PsDecoder, layout: Layout) -> PsDecoder
-    ensures { λ r. ⌜ r ≡ switchedFrom layout state ⌝ }
+fn switched(
+    carried: PsCarried,
+    layout: Layout,
+    history: &mut [f64; 60],
+    delays: &mut [f64; 1400],
+    long: &mut [f64; 336],
+    short: &mut [f64; 58],
+    detectors: &mut [f64; 102],
+) -> PsCarried
+    ensures { λ r. ⌜ decoderOf r (now (history .exit)) (now (delays .exit)) (now (long .exit)) (now (short .exit)) (now (detectors .exit))
+        ≡ switchedFrom layout (decoderOf carried (now (history .entry)) (now (delays .entry)) (now (long .entry)) (now (short .entry)) (now (detectors .entry))) ⌝ }
 {
-    let old = state.layout;
+    let old = carried.layout;
     if same(old, layout) {
-        return state;
+        return carried;
     }
-    let indices = state.indices;
-    let stereo = state.stereo;
-    PsDecoder {
-        asked: state.asked,
+    *history = [0.0; 60];
+    *delays = [0.0; 1400];
+    *long = [0.0; 336];
+    *short = [0.0; 58];
+    *detectors = [0.0; 102];
+    let indices = carried.indices;
+    let stereo = carried.stereo;
+    PsCarried {
+        asked: carried.asked,
         layout: layout,
-        configured: state.configured,
-        cued: state.cued,
+        configured: carried.configured,
+        cued: carried.cued,
         indices: indices,
-        history: [0.0; 60],
-        decorr: ps_decorr::fresh(),
         stereo: ps_stereo::switched(stereo, layout),
     }
 }
@@ -83,12 +105,21 @@ fn cleared_place(layout: Layout, edge: usize, cued: bool) -> usize
 }
 
 // The state before a frame of a layout.
-pub fn ready(state: PsDecoder, layout: Layout, edge: usize) -> PsDecoder
-    ensures { λ r. ⌜ r ≡ readied layout edge state ⌝ }
+pub fn ready(
+    carried: PsCarried,
+    layout: Layout,
+    edge: usize,
+    history: &mut [f64; 60],
+    delays: &mut [f64; 1400],
+    long: &mut [f64; 336],
+    short: &mut [f64; 58],
+    detectors: &mut [f64; 102],
+) -> PsCarried
+    ensures { λ r. ⌜ decoderOf r (now (history .exit)) (now (delays .exit)) (now (long .exit)) (now (short .exit)) (now (detectors .exit))
+        ≡ readied layout edge (decoderOf carried (now (history .entry)) (now (delays .entry)) (now (long .entry)) (now (short .entry)) (now (detectors .entry))) ⌝ }
 {
-    let mut t = switched(state, layout);
-    let place = cleared_place(layout, edge, t.cued);
-    let decorr = t.decorr;
-    t.decorr = ps_decorr::reset_from(decorr, layout, place);
-    t
+    let after = switched(carried, layout, history, delays, long, short, detectors);
+    let place = cleared_place(layout, edge, after.cued);
+    ps_decorr::reset_from(layout, place, delays, long, short);
+    after
 }

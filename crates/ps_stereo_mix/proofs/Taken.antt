@@ -3,10 +3,10 @@ use mathlib.Core.Path.{_≡_, ap, ap₂, _∙_}
 use mathlib.Core.Bool.{Bool, true, false, cond}
 use mathlib.Core.List.{List}
 use Prim.Native.Nat.{ℕ, _+_, _*_, _<_}
-use borrow.Author.Tests.{lt-ltb}
+use borrow.Author.Tests.{lt-ltb, eq-eqb}
 use lib.Dec.{ltb}
 use lib.Ieee.{Float, nan}
-use lib.ListN.{getD}
+use lib.ListN.{getD, length}
 use Rattle.complex.specs.declared.Complex.{Complex}
 use Rattle.complex.specs.Operations.{product, sum, scaled, conjugate}
 use Rattle.lists.specs.Part.{part}
@@ -42,24 +42,39 @@ module _ (first second samples decorrelated gains : List Float) (at slots : ℕ)
       ∙ ap (sumAt (conjugate (cell 32 first n)) (conjugate (cell 32 second n)) (cell 32 samples n) (cell 32 decorrelated n)) (part-at at 32 gains n nan u))
 
 -- ---- both sides of a channel that is there
-module _ (runs : List Float) (marked : Bool) (samples : List Float) (k : ℕ) (decorrelated gains : List Float) (band slots : ℕ) (out : List Float) where
-  channel-there : k < 91 → band < 34 → (x : List Float) → x ≡ cond (there runs marked samples k decorrelated gains band) x out
-  channel-there a b x = rw (lt-ltb k 91 a, lt-ltb band 34 b)
+module _ (runs : List Float) (marked : Bool) (samples : List Float) (k : ℕ) (decorrelated gains : List Float) (band slots : ℕ) (left right : List Float) where
+  pub unmixed : there runs marked samples k decorrelated gains band left right ≡ false
+      → (left ≡ leftAfter runs marked samples k decorrelated gains band slots left right) × (right ≡ rightAfter runs marked samples k decorrelated gains band slots left right)
+  unfolding leftAfter rightAfter
+  unmixed gone = (rw gone, rw gone)
 
-  pub left-mixed : k < 91 → band < 34
-      → takenSide marked (part 0 64 runs) (part 128 64 runs) (part (64 * k) 64 samples) decorrelated (part (32 * band) 32 gains) slots out
-      ≡ leftAfter runs marked samples k decorrelated gains band slots out
-  unfolding leftAfter leftOf
-  left-mixed a b =
-      side-taken (part 0 64 runs) (part 128 64 runs) (part (64 * k) 64 samples) decorrelated gains (32 * band) slots out marked
-      ∙ channel-there a b
-      (planar 32 (overwritten slots (taking (part 0 64 runs) (part 128 64 runs) (part (64 * k) 64 samples) decorrelated gains (32 * band) slots out marked) (cell 32 out)))
+  module _ (found : there runs marked samples k decorrelated gains band left right ≡ true) where
+    chosen : (x other : List Float) → x ≡ cond (there runs marked samples k decorrelated gains band left right) x other
+    chosen x other = rw found
 
-  pub right-mixed : k < 91 → band < 34
-      → takenSide marked (part 64 64 runs) (part 192 64 runs) (part (64 * k) 64 samples) decorrelated (part (32 * band) 32 gains) slots out
-      ≡ rightAfter runs marked samples k decorrelated gains band slots out
-  unfolding rightAfter rightOf
-  right-mixed a b =
-      side-taken (part 64 64 runs) (part 192 64 runs) (part (64 * k) 64 samples) decorrelated gains (32 * band) slots out marked
-      ∙ channel-there a b
-      (planar 32 (overwritten slots (taking (part 64 64 runs) (part 192 64 runs) (part (64 * k) 64 samples) decorrelated gains (32 * band) slots out marked) (cell 32 out)))
+    left-mixed :
+        takenSide marked (part 0 64 runs) (part 128 64 runs) (part (64 * k) 64 samples) decorrelated (part (32 * band) 32 gains) slots left
+        ≡ leftAfter runs marked samples k decorrelated gains band slots left right
+    unfolding leftAfter leftOf
+    left-mixed =
+        side-taken (part 0 64 runs) (part 128 64 runs) (part (64 * k) 64 samples) decorrelated gains (32 * band) slots left marked
+        ∙ chosen
+        (planar 32 (overwritten slots (taking (part 0 64 runs) (part 128 64 runs) (part (64 * k) 64 samples) decorrelated gains (32 * band) slots left marked) (cell 32 left)))
+        left
+
+    right-mixed :
+        takenSide marked (part 64 64 runs) (part 192 64 runs) (part (64 * k) 64 samples) decorrelated (part (32 * band) 32 gains) slots right
+        ≡ rightAfter runs marked samples k decorrelated gains band slots left right
+    unfolding rightAfter rightOf
+    right-mixed =
+        side-taken (part 64 64 runs) (part 192 64 runs) (part (64 * k) 64 samples) decorrelated gains (32 * band) slots right marked
+        ∙ chosen
+        (planar 32 (overwritten slots (taking (part 64 64 runs) (part 192 64 runs) (part (64 * k) 64 samples) decorrelated gains (32 * band) slots right marked) (cell 32 right)))
+        right
+
+  pub mixed : k < 91 → band < 34 → length decorrelated ≡ 64 → length left ≡ 64 → length right ≡ 64
+      → (takenSide marked (part 0 64 runs) (part 128 64 runs) (part (64 * k) 64 samples) decorrelated (part (32 * band) 32 gains) slots left ≡ leftAfter runs marked samples k decorrelated gains band slots left right)
+      × (takenSide marked (part 64 64 runs) (part 192 64 runs) (part (64 * k) 64 samples) decorrelated (part (32 * band) 32 gains) slots right ≡ rightAfter runs marked samples k decorrelated gains band slots left right)
+  mixed a b d l r =
+      let found : there runs marked samples k decorrelated gains band left right ≡ true = rw (lt-ltb k 91 a, lt-ltb band 34 b, eq-eqb (length decorrelated) 64 d, eq-eqb (length left) 64 l, eq-eqb (length right) 64 r) in
+      (left-mixed found, right-mixed found)

@@ -135,26 +135,35 @@ fn sides(
     );
 }
 
-// Channel k of 91, of a band of 34, over at most 32 slots; a marked channel takes conjugate coefficients.
+// Channel k of 91, of a band of 34, over at most 32 slots, where the three runs have 32 complex numbers; a marked channel takes conjugate coefficients.
 pub fn mix(
     runs: &[f64; 256],
     marked: bool,
     samples: &[f64; 5824],
     k: usize,
-    decorrelated: &[f64; 64],
+    decorrelated: &[f64],
     gains: &[f64; 1088],
     band: usize,
     slots: usize,
-    left: &mut [f64; 64],
-    right: &mut [f64; 64],
+    left: &mut [f64],
+    right: &mut [f64],
 )
-    ensures left { λ _. ⌜ now (left .exit) ≡ leftAfter (now (runs .entry)) marked (now (samples .entry)) k (now (decorrelated .entry)) (now (gains .entry)) band (min slots 32) (now (left .entry)) ⌝ }
-    ensures right { λ _. ⌜ now (right .exit) ≡ rightAfter (now (runs .entry)) marked (now (samples .entry)) k (now (decorrelated .entry)) (now (gains .entry)) band (min slots 32) (now (right .entry)) ⌝ }
+    ensures left { λ _. ⌜ now (left .exit) ≡ leftAfter (now (runs .entry)) marked (now (samples .entry)) k (now (decorrelated .entry)) (now (gains .entry)) band (min slots 32) (now (left .entry)) (now (right .entry)) ⌝ }
+    ensures right { λ _. ⌜ now (right .exit) ≡ rightAfter (now (runs .entry)) marked (now (samples .entry)) k (now (decorrelated .entry)) (now (gains .entry)) band (min slots 32) (now (left .entry)) (now (right .entry)) ⌝ }
 {
     if 91 <= k {
         return;
     }
     if 34 <= band {
+        return;
+    }
+    if decorrelated.len() != 64 {
+        return;
+    }
+    if left.len() != 64 {
+        return;
+    }
+    if right.len() != 64 {
         return;
     }
     let count = least(slots, 32);

@@ -1,6 +1,7 @@
 // One frame of the stream, played stage by stage and compared.
 use super::compare;
 use super::compare::Verdict;
+use super::ready;
 use super::sound;
 use super::stream;
 use super::stream::Head;
@@ -247,7 +248,7 @@ fn read_on(decoder: PsDecoder, head: Head, header: Header, resolved: Resolved) -
     if !stream::read_rows(slots + 6, &mut input) {
         return stopped(decoder, Verdict::Cut);
     }
-    let ready = ps_state::ready(decoder, layout, head.edge);
+    let ready = ready::made_ready(decoder, layout, head.edge);
     play(ready, header, resolved, &input)
 }
 

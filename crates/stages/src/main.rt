@@ -3,6 +3,7 @@
 // hold at each stage, and where the first difference is.
 mod compare;
 mod frame;
+mod ready;
 mod say;
 mod sound;
 mod stream;

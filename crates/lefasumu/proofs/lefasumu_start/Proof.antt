@@ -1,4 +1,4 @@
--- `lefasumu::lefasumu_start` meets its contract: the length is the test. Assumes nothing.
+-- `lefasumu::lefasumu_start` meets its contract: the length is the test, and a state taken apart is that state. Assumes nothing.
 use borrow.Author.Needs.{needs}
 use Rattle.lefasumu.proofs.Calls.{start-refused, start-done}
 use Rattle.lefasumu.proofs.lefasumu_start.Statement.{statement}
@@ -12,10 +12,11 @@ refused c =
 done : tie.Need-returns-2
 done c =
     let store = c .before .before in
-    let fresh = store .before .before in
+    let detectors = store .before .before .before .before .before .before .before in
+    let fresh = detectors .before .before .before .before .before .before .before .before in
     let tested = fresh .before in
     let start = tested .before .before .before in
-    start-done (start .args .memory .now) (start .args .slots) _ _ _ (tested .before .numbers .ensures) (tested .if1 .left) (fresh .fresh .ensures)
+    start-done (start .args .memory .now) (start .args .slots) _ (fresh .fresh .result) _ (tested .before .numbers .ensures) (tested .if1 .left) (fresh .fresh .ensures)
     (store .store .ensures)
 
 pub lefasumu-start-spec : {M : Type 1} → statement M

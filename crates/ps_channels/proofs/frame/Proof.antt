@@ -6,11 +6,18 @@ use Rattle.ps_channels.proofs.frame.Tie as tie
 
 each-requires : tie.Need-each-requires
 each-requires c κs =
-    let made = c .before .before .before .before .before .before .before .before .before .before .before in
+    let made = c .before .before .before .before .before .before .before .before .before .before .before .before in
     let mapped = made .before .before in
     let start = mapped .before .before .before in (
-      (mapped .parameter-map .ensures, start .pre .0),
-      (rw (made .fractions2 .ensures) (fractions-made (start .args .borders) (start .args .count) _), start .pre .1),
+      (
+        record {
+          bands = mapped .parameter-map .ensures;
+          shares = rw (made .fractions2 .ensures) (fractions-made (start .args .borders) (start .args .count) _);
+          few = start .pre .1 .0;
+        },
+        start .pre .0,
+      ),
+      start .pre .1 .1,
     )
 
 pub frame-spec : {M : Type 1} → statement M

@@ -6,8 +6,13 @@ use Rattle.ps_decoder.proofs.play.Tie as tie
 returns : tie.Need-returns
 returns c =
     let sounded = c .before .before .before .before in
-    let made = sounded .before .before .before .before .before .before in
-    rw (← made .before .layout-in .ensures, ← made .ready .ensures) (sounded .sound .ensures)
+    let made = sounded .before .before .before .before .before .before .before .before .before .before .before in
+    let laid = made .before .before .before .before .before .before in
+    record {
+      state = rw (← laid .layout-in .ensures, ← made .ready .ensures) (sounded .sound .ensures .0);
+      left-rows = rw (← laid .layout-in .ensures, ← made .ready .ensures) (sounded .sound .ensures .1 .0);
+      right-rows = rw (← laid .layout-in .ensures, ← made .ready .ensures) (sounded .sound .ensures .1 .1);
+    }
 
 pub play-spec : {M : Type 1} → statement M
 play-spec = tie.close (tie.spec (λ c κs. search needs) (λ c κs. search needs) (λ c κs. search needs) (λ c. search needs) (λ c. search needs) returns)

@@ -28,10 +28,10 @@ loop-again : tie.Need-loop-again Inv-loop μ-loop
 loop-again c =
     let l = c .before .before .before .before .before in
     let a = l .before .args in
-    let stood = column-ahead (l .loop .inv .1) (l .before .pre .inside) in (
+    let stood = column-ahead (l .loop .inv .1) (l .before .pre .0 .inside) in (
       omega arith,
-      column-more (l .loop .inv .1) (l .before .pre .inside) (added (a .run .now) (l .loop .rows) (a .column) (l .loop .n))
-          (ap (λ (z : Complex). sum z (cell 32 (a .run .now) (l .loop .n))) stood) (omega (arith, l .before .pre .long)),
+      column-more (l .loop .inv .1) (l .before .pre .0 .inside) (added (a .run .now) (l .loop .rows) (a .column) (l .loop .n))
+          (ap (λ (z : Complex). sum z (cell 32 (a .run .now) (l .loop .n))) stood) (omega (arith, l .before .pre .0 .long)),
     )
 
 returns : tie.Need-returns Inv-loop μ-loop

@@ -25,7 +25,7 @@ loop-again : tie.Need-loop-again Inv-loop μ-loop
 loop-again c =
     let l = c .before .before .before in
     let a = l .before .args in
-    (omega arith, column-more (l .loop .inv .1) (l .before .pre .inside) (passed (a .run .now) (l .loop .n)) refl (omega (arith, l .before .pre .long)))
+    (omega arith, column-more (l .loop .inv .1) (l .before .pre .0 .inside) (passed (a .run .now) (l .loop .n)) refl (omega (arith, l .before .pre .0 .long)))
 
 returns : tie.Need-returns Inv-loop μ-loop
 returns c = column-all (c .before .loop .inv .1) _ (omega arith)

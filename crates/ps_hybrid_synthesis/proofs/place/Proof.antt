@@ -9,17 +9,17 @@ use Rattle.ps_hybrid_synthesis.proofs.place.Statement.{statement}
 use Rattle.ps_hybrid_synthesis.proofs.place.Tie as tie
 
 -- what the test against the first unsplit channel says
-unsplit : (c : tie.Then1) → unsplitFromOf (c .before .before .before .args .layout) ≤ c .before .before .before .args .k
+unsplit : (c : tie.Then1) → unsplitFromOf (c .before .before .before .before .args .layout) ≤ c .before .before .before .before .args .k
 unsplit c = omega (arith, c .before .unsplit-from .ensures)
 
-split : (c : tie.Else1) → c .before .before .before .args .k < unsplitFromOf (c .before .before .before .args .layout)
+split : (c : tie.Else1) → c .before .before .before .before .args .k < unsplitFromOf (c .before .before .before .before .args .layout)
 split c = omega (arith, c .before .unsplit-from .ensures)
 
 passes : tie.Need-returns
 passes c =
     let d = c .before .before in
     let u = d .before .before in
-    let a = u .before .before .before .before .args in
+    let a = u .before .before .before .before .before .args in
     d .pass .ensures
     ∙ as-passed (a .layout) (a .k) (a .run .now) (a .rows .now) (a .slots) (unsplit (u .before)) (u .unsplit-column .result) (u .unsplit-column .ensures .0)
 
@@ -27,7 +27,7 @@ starts : tie.Need-returns-2
 starts c =
     let d = c .before .before in
     let b = d .before .before .before in
-    let a = b .before .before .before .before .args in
+    let a = b .before .before .before .before .before .args in
     d .start .ensures
     ∙ as-started (a .layout) (a .k) (a .run .now) (a .rows .now) (a .slots) (split (b .before)) (b .split-band .result) (b .split-band .ensures) (d .before .before .if2 .taken)
 
@@ -35,7 +35,7 @@ adds : tie.Need-returns-3
 adds c =
     let d = c .before .before in
     let b = d .before .before .before in
-    let a = b .before .before .before .before .args in
+    let a = b .before .before .before .before .before .args in
     d .add .ensures
     ∙ as-added (a .layout) (a .k) (a .run .now) (a .rows .now) (a .slots) (split (b .before)) (b .split-band .result) (b .split-band .ensures) (d .before .before .if2 .left)
 

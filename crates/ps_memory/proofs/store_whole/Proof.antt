@@ -1,6 +1,7 @@
 -- `ps_memory::store_whole` meets its contract: the parts are stored from the last to the first. Assumes nothing.
-use Rattle.ps_memory.proofs.Laid.{whole-laid}
 use borrow.Author.Needs.{needs}
+use Rattle.ps_state.specs.State.{decoderOf}
+use Rattle.ps_memory.proofs.Laid.{whole-laid}
 use Rattle.ps_memory.proofs.store_whole.Statement.{statement}
 use Rattle.ps_memory.proofs.store_whole.Tie as tie
 
@@ -9,13 +10,12 @@ returns c =
     let head = c .before .before in
     let indices = head .before .before .before .before in
     let sound = indices .before .before .before .before .before in
-    let start = sound .before .before .before in
-    whole-laid (start .args .state) (start .args .memory .now) _ _ _ (start .pre) (head .store-head .ensures) (indices .store-indices .ensures)
-    (sound .store-sound .ensures)
+    let start = sound .before .before .before .before in
+    let a = start .args in
+    whole-laid (decoderOf (a .carried) (a .history .now) (a .delays .now) (a .long .now) (a .short .now) (a .detectors .now)) (a .memory .now) _ _ _ (start .pre)
+    (head .store-head .ensures) (indices .store-indices .ensures) (sound .store-sound .ensures)
 
 pub store-whole-spec : {M : Type 1} → statement M
 store-whole-spec =
     tie.close
-    (tie.spec (λ c. search needs) (λ c. search needs) (λ c. search needs) (λ c κs. search needs) (λ c. search needs) (λ c. search needs)
-    (λ c. search needs) (λ c κs. search needs) (λ c. search needs) (λ c. search needs) (λ c. search needs) (λ c κs. search needs) (λ c. search needs)
-    returns)
+    (tie.spec (λ c. search needs) (λ c. search needs) (λ c. search needs) (λ c κs. search needs) (λ c. search needs) (λ c. search needs) (λ c. search needs) (λ c κs. search needs) (λ c. search needs) (λ c. search needs) (λ c. search needs) (λ c κs. search needs) (λ c. search needs) returns)

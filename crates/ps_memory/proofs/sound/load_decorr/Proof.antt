@@ -1,22 +1,18 @@
 -- `ps_memory::sound::load_decorr` meets its contract: the parts are copied one after the other. Assumes nothing.
-use Rattle.ps_memory.proofs.Read.{decorr-read}
 use borrow.Author.Needs.{needs}
+use Rattle.ps_memory.proofs.Read.{decorr-read}
 use Rattle.ps_memory.proofs.sound.load_decorr.Statement.{statement}
 use Rattle.ps_memory.proofs.sound.load_decorr.Tie as tie
 
 returns : tie.Need-returns
 returns c =
-    let detectors = c .before in
-    let short = detectors .before .before .before .before in
-    let long = short .before .before .before .before in
-    let delays = long .before .before .before .before in
-    decorr-read (delays .before .before .before .before .args .from .now) _ _ _ _ (delays .copy .ensures) (long .copy2 .ensures) (short .copy3 .ensures)
-    (detectors .copy4 .ensures)
+    let short = c .before .before .before in
+    let long = short .before .before .before in
+    let delays = long .before .before .before in
+    let start = delays .before .before .before .before in
+    decorr-read (start .args .from .now) _ _ _ _ (delays .copy .ensures) (long .copy2 .ensures) (short .copy3 .ensures) (c .copy4 .ensures)
 
 pub load-decorr-spec : {M : Type 1} → statement M
 load-decorr-spec =
     tie.close
-    (tie.spec (λ c. search needs) (λ c. search needs) (λ c. search needs) (λ c. search needs) (λ c κs. search needs) (λ c. search needs)
-    (λ c. search needs) (λ c. search needs) (λ c. search needs) (λ c κs. search needs) (λ c. search needs) (λ c. search needs) (λ c. search needs)
-    (λ c. search needs) (λ c κs. search needs) (λ c. search needs) (λ c. search needs) (λ c. search needs) (λ c. search needs) (λ c κs. search needs)
-    returns)
+    (tie.spec (λ c. search needs) (λ c. search needs) (λ c. search needs) (λ c κs. search needs) (λ c. search needs) (λ c. search needs) (λ c. search needs) (λ c κs. search needs) (λ c. search needs) (λ c. search needs) (λ c. search needs) (λ c κs. search needs) (λ c. search needs) (λ c. search needs) (λ c. search needs) (λ c κs. search needs) returns)

@@ -1,0 +1,3 @@
+pub mod Four
+pub mod Tape
+pub mod Lanes
