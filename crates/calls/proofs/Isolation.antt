@@ -1,17 +1,14 @@
 -- A stereo band hears only itself: the theorem of `standard`, carried over to the numbers that the calls of two runs write. Assumes nothing.
-use Prim.Native.Nat.{ℕ, zero, suc, _+_, _-_, _*_, _/_, _%_, _≤_, _<_}
+use Prim.Native.Nat.{ℕ, zero, suc, _-_, _<_}
 use native.Mathlib.Nat.{le-refl}
 use native.Mathlib.Omega.{arith}
 use mathlib.Core.Path.{_≡_, refl, sym, ap, _∙_}
 use mathlib.Core.List.{List}
-use lib.Ieee.{Float, nan}
+use lib.Ieee.{Float}
 use Rattle.complex.specs.declared.Complex.{Complex}
 use Rattle.layout.specs.declared.Layout.{Layout}
-use Rattle.layout.specs.Numbers.{channelsOf, splitOf, unsplitFromOf}
-use Rattle.lists.proofs.Maps.{tabulate-at}
-use Rattle.planar.specs.Frame.{qmfAt, qmfRows}
-use Rattle.planar.proofs.Cells.{by-parts}
-use Rattle.ps_map.specs.Bands.{bandOf}
+use Rattle.planar.specs.Frame.{qmfAt}
+use Rattle.planar.proofs.Rows.{qmf-at}
 use Rattle.standard.specs.Core as core
 use Rattle.standard.specs.Core.{Head, Core, Frame, ready, leftAt, rightAt, before, next}
 use Rattle.standard.specs.Hybrid.{synthesised}
@@ -20,7 +17,7 @@ use Rattle.standard.proofs.Runs.{isolation}
 use Rattle.answer.specs.Number.{numberOf}
 use Rattle.calls.specs.Call.{Call, Playing, Outcome, fresh, answer, layout, head, frameOf, after, rowsOf, played}
 use Rattle.calls.specs.Run.{carried, outcome, frameAt, Accepted}
-use Rattle.calls.specs.Isolation.{Matching, hybridAt, AlikeOn, Alike}
+use Rattle.calls.specs.Isolation.{Matching, hybridAt, Alike}
 use Rattle.calls.proofs.Outcomes.{done, done-played, answered}
 
 -- ---- an accepted call
@@ -31,19 +28,6 @@ accepted-done s c e = done-played s c (ap numberOf (sym (answered s c)) ∙ e)
 stepped : (s : Playing) (c : Call) → after s c .core ≡ next (s .core) (frameOf s c)
 unfolding after
 stepped s c = refl
-
--- a number of the rows written
-qmf-at : (slots : ℕ) (y : ℕ → ℕ → Complex) (n q : ℕ) → n < slots → q < 64 → qmfAt (qmfRows slots y) n q ≡ y n q
-qmf-at slots y n q u v =
-    let row : (128 * n + 2 * q) / 128 ≡ n = omega arith in
-    let band : (128 * n + 2 * q) % 128 / 2 ≡ q = omega arith in
-    let even : (128 * n + 2 * q) % 2 ≡ 0 = omega arith in
-    let row-too : (128 * n + 2 * q + 1) / 128 ≡ n = omega arith in
-    let band-too : (128 * n + 2 * q + 1) % 128 / 2 ≡ q = omega arith in
-    let odd : (128 * n + 2 * q + 1) % 2 ≡ 1 = omega arith in
-    by-parts
-    (tabulate-at _ (128 * slots) (128 * n + 2 * q) nan (omega arith) ∙ rw (even, row, band))
-    (tabulate-at _ (128 * slots) (128 * n + 2 * q + 1) nan (omega arith) ∙ rw (odd, row-too, band-too))
 
 -- ---- the state of an accepted run is that of the sound
 

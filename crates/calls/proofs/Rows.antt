@@ -48,7 +48,7 @@ unfolding addedTo
 added-same y z from zero same = refl
 added-same y z from (suc count) same = ap₂ sum (added-same y z from count (λ i u. same i (omega arith))) (same count (le-refl (suc count)))
 
-span-small : (l : Layout) (p : ℕ) → spanOf l p ≤ channelsOf l
+span-small : (l : Layout) (p : ℕ) → spanOf l p ≤ unsplitFromOf l
 span-small Bands20 zero = omega arith
 span-small Bands20 (suc zero) = omega arith
 span-small Bands20 (suc (suc zero)) = omega arith
@@ -64,15 +64,24 @@ unsplit-small : (l : Layout) (q : ℕ) → q < 64 → q + unsplitFromOf l - spli
 unsplit-small Bands20 q h = omega arith
 unsplit-small Bands34 q h = omega arith
 
-pub synthesised-same : (l : Layout) (y z : ℕ → Complex) → ((k : ℕ) → k < channelsOf l → y k ≡ z k) → (q : ℕ) → q < 64 → synthesised l y q ≡ synthesised l z q
+some-unsplit : (l : Layout) → unsplitFromOf l ≤ channelsOf l
+some-unsplit Bands20 = omega arith
+some-unsplit Bands34 = omega arith
+
+-- a QMF band reads its own channels: those of the split bands, or its own
+pub synthesised-below : (l : Layout) (bound : ℕ) (y z : ℕ → Complex) → ((k : ℕ) → k < bound → y k ≡ z k) → unsplitFromOf l ≤ bound
+    → (q : ℕ) → q + unsplitFromOf l - splitOf l < bound → synthesised l y q ≡ synthesised l z q
 unfolding synthesised
-synthesised-same l y z same q h = go (ltb q (splitOf l))
+synthesised-below l bound y z same all q h = go (ltb q (splitOf l))
   where
     go : (t : Bool)
         → cond t (addedTo y (spanOf l q) (spanOf l (suc q) - spanOf l q)) (y (q + unsplitFromOf l - splitOf l))
         ≡ cond t (addedTo z (spanOf l q) (spanOf l (suc q) - spanOf l q)) (z (q + unsplitFromOf l - splitOf l))
     go true = added-same y z (spanOf l q) (spanOf l (suc q) - spanOf l q) (λ i u. same (spanOf l q + i) (omega (arith, span-small l (suc q))))
-    go false = same (q + unsplitFromOf l - splitOf l) (unsplit-small l q h)
+    go false = same (q + unsplitFromOf l - splitOf l) h
+
+pub synthesised-same : (l : Layout) (y z : ℕ → Complex) → ((k : ℕ) → k < channelsOf l → y k ≡ z k) → (q : ℕ) → q < 64 → synthesised l y q ≡ synthesised l z q
+synthesised-same l y z same q h = synthesised-below l (channelsOf l) y z same (some-unsplit l) q (unsplit-small l q h)
 
 -- the rows of a frame are those of their first slots
 pub rows-same : (slots : ℕ) (y z : ℕ → ℕ → Complex) → ((n q : ℕ) → n < slots → q < 64 → y n q ≡ z n q) → qmfRows slots y ≡ qmfRows slots z

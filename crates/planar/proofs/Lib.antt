@@ -1,2 +1,4 @@
 pub mod Cells
+pub mod Pairs
 pub mod Window
+pub mod Rows

@@ -1,12 +1,13 @@
--- A frame in flat lists: the hybrid samples, for each of 91 channels a run of 32 slots; a band's coefficients, four runs of 32 slots; and QMF slots,
--- rows of 64 complex numbers side by side.
--- Assumes nothing.
-use Prim.Native.Nat.{ℕ, _+_, _*_, _/_, _%_}
+-- A frame in flat lists: the hybrid samples, for each all-pass channel a run of 32 slots; a band's coefficients, four runs of 32 slots; and QMF slots,
+-- rows of 64 complex numbers side by side. Assumes nothing.
+use Prim.Native.Nat.{ℕ, _+_, _-_, _*_, _/_, _%_}
 use mathlib.Core.Bool.{cond}
 use mathlib.Core.List.{List, [], _∷_, _++_}
-use lib.Dec.{eqb}
+use lib.Dec.{eqb, ltb}
 use lib.Ieee.{Float}
 use Rattle.complex.specs.declared.Complex.{Complex}
+use Rattle.layout.specs.declared.Layout.{Layout}
+use Rattle.layout.specs.Numbers.{allPassOf, splitOf, unsplitFromOf}
 use Rattle.lists.specs.Part.{part}
 use Rattle.lists.specs.Rows.{tabulate}
 use Rattle.standard.specs.declared.Matrix.{Matrix}
@@ -36,3 +37,11 @@ qmfAt qmf n q = cell 1 qmf (128 * n + 2 * q)
 
 abbrev pub qmfRows : ℕ → (ℕ → ℕ → Complex) → List Float
 qmfRows slots y = tabulate (λ i. cond (eqb (i % 2) 0) (y (i / 128) (i % 128 / 2) .re) (y (i / 128) (i % 128 / 2) .im)) (128 * slots)
+
+-- the QMF band of an unsplit channel
+abbrev pub qmfBandOf : Layout → ℕ → ℕ
+qmfBandOf l k = k + splitOf l - unsplitFromOf l
+
+-- slot n of channel k, whichever its kind: a channel above the all-pass ones is a QMF band of the input
+abbrev pub sampleIn : Layout → List Float → List Float → ℕ → ℕ → Complex
+sampleIn l samples input n k = cond (ltb k (allPassOf l)) (sampleAt samples n k) (qmfAt input n (qmfBandOf l k))

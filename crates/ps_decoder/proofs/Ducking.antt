@@ -15,9 +15,9 @@ use Rattle.layout.specs.Numbers.{bandsOf, channelsOf}
 use Rattle.lists.specs.Rows.{tabulate}
 use Rattle.lists.proofs.Maps.{tabulate-at, tabulate-same}
 use Rattle.planar.specs.Cells.{overwritten}
-use Rattle.planar.specs.Frame.{sampleAt}
+use Rattle.planar.specs.Frame.{sampleIn}
 use Rattle.ps_decorr.specs.Channels.{detectorsWith}
-use Rattle.ps_decorr_transient.specs.Gains.{detectorOf, powerAt, detectorThen, detectorsAfter, gainsAfter}
+use Rattle.ps_decorr_transient.specs.Gains.{detectorOf, powerAt, detectorThen, enough, detectorsAfter, gainsAfter}
 use Rattle.standard.specs.Detector.{Detector, powerTo, detectorAt, ducking}
 use Rattle.standard.proofs.Frames.{power-same, detector-same}
 
@@ -42,34 +42,37 @@ detectors-same l f g old same =
         tabulate-same (λ b. number (overwritten (bandsOf l) f (detectorOf old) b)) (λ b. number (overwritten (bandsOf l) g (detectorOf old) b)) 34
         (λ b u. ap number (one b (ltb b (bandsOf l)) refl))
 
-module _ (l : Layout) (memory samples : List Float) (slots : ℕ) (sample : ℕ → ℕ → Complex)
-    (same : (n k : ℕ) → n < slots → k < channelsOf l → sampleAt samples n k ≡ sample n k) where
+module _ (l : Layout) (memory samples input : List Float) (slots : ℕ) (sample : ℕ → ℕ → Complex)
+    (same : (n k : ℕ) → n < slots → k < channelsOf l → sampleIn l samples input n k ≡ sample n k) where
   -- band b's detector after n slots of the samples
   abbrev pub detectorBy : ℕ → ℕ → Detector
   detectorBy b n = detectorAt (detectorOf memory b) (λ m. powerTo l (sample m) b (channelsOf l)) n
 
-  detector-then : (b n : ℕ) → n ≤ slots → detectorThen l memory samples b n ≡ detectorBy b n
+  detector-then : (b n : ℕ) → n ≤ slots → detectorThen l memory samples input b n ≡ detectorBy b n
   unfolding detectorThen powerAt
   detector-then b n h =
-      detector-same (detectorOf memory b) (powerAt l samples b) (λ m. powerTo l (sample m) b (channelsOf l)) n
-      (λ m u. power-same l b (sampleAt samples m) (sample m) (channelsOf l) (λ k w e. same m k (omega arith) w))
+      detector-same (detectorOf memory b) (powerAt l samples input b) (λ m. powerTo l (sample m) b (channelsOf l)) n
+      (λ m u. power-same l b (sampleIn l samples input m) (sample m) (channelsOf l) (λ k w e. same m k (omega arith) w))
 
-  pub detectors-then : detectorsAfter l memory samples slots ≡ detectorsWith l (λ b. detectorBy b slots) memory
+  pub detectors-then : enough l memory samples input slots ≡ true → detectorsAfter l memory samples input slots ≡ detectorsWith l (λ b. detectorBy b slots) memory
   unfolding detectorsAfter detectorsWith
-  detectors-then =
-      detectors-same l (λ b. detectorThen l memory samples b slots) (λ b. detectorBy b slots) memory (λ b u. detector-then b slots (omega arith))
+  detectors-then room =
+      rw room
+      (detectors-same l (λ b. detectorThen l memory samples input b slots) (λ b. detectorBy b slots) memory (λ b u. detector-then b slots (omega arith)))
 
-  pub gain-same : (gains : List Float) → slots ≤ 32 → (b n : ℕ) → b < bandsOf l → n < slots
-      → getD (gainsAfter l memory samples slots gains) (32 * b + n) nan ≡ ducking (detectorBy b (suc n))
+  pub gain-same : enough l memory samples input slots ≡ true → (gains : List Float) → slots ≤ 32 → (b n : ℕ) → b < bandsOf l → n < slots
+      → getD (gainsAfter l memory samples input slots gains) (32 * b + n) nan ≡ ducking (detectorBy b (suc n))
   unfolding gainsAfter
-  gain-same gains few b n h u =
-      tabulate-at
-      (λ i. cond (ltb (i / 32) (bandsOf l) && ltb (i % 32) slots) (ducking (detectorThen l memory samples (i / 32) (suc (i % 32)))) (getD gains i nan)) 1088 (32 * b + n) nan
-      (omega (arith, bands-few l))
+  gain-same room gains few b n h u =
+      ap (λ (t : Bool). getD (cond t (tabulate gainAt 1088) gains) (32 * b + n) nan) room
+      ∙ tabulate-at gainAt 1088 (32 * b + n) nan (omega (arith, bands-few l))
       ∙ picked ((32 * b + n) / 32) ((32 * b + n) % 32) (omega arith) (omega arith)
       ∙ ap ducking (detector-then b (suc n) u)
     where
+      gainAt : ℕ → Float
+      gainAt i = cond (ltb (i / 32) (bandsOf l) && ltb (i % 32) slots) (ducking (detectorThen l memory samples input (i / 32) (suc (i % 32)))) (getD gains i nan)
+
       picked : (c m : ℕ) → c ≡ b → m ≡ n
-          → cond (ltb c (bandsOf l) && ltb m slots) (ducking (detectorThen l memory samples c (suc m))) (getD gains (32 * b + n) nan)
-          ≡ ducking (detectorThen l memory samples b (suc n))
+          → cond (ltb c (bandsOf l) && ltb m slots) (ducking (detectorThen l memory samples input c (suc m))) (getD gains (32 * b + n) nan)
+          ≡ ducking (detectorThen l memory samples input b (suc n))
       picked c m p q = rw (p, q, lt-ltb b (bandsOf l) h, lt-ltb n slots u)

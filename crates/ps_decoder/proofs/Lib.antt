@@ -2,7 +2,10 @@ pub mod Slots
 pub mod Samples
 pub mod Ducking
 pub mod Coefficients
-pub mod Channels
+pub mod Flat
+pub mod Chains
+pub mod Delays
+pub mod Sides
 pub mod Stages
 pub mod Accepted
 pub mod Run

@@ -1,64 +1,85 @@
--- The hybrid samples that the analysis leaves are those of the definitions: each channel's run is a row of the list. Assumes nothing.
-use mathlib.Core.Path.{_≡_, ap, _∙_}
+-- The hybrid samples that the analysis leaves are those of the definitions: each all-pass channel's run is a row of the list, and each channel above is a
+-- QMF band of the input. Assumes nothing.
+use mathlib.Core.Path.{_≡_, refl, ap, _∙_}
 use mathlib.Core.Bool.{Bool, true, false, cond}
 use mathlib.Core.List.{List}
-use Prim.Native.Nat.{ℕ, _*_, _<_, _≤_}
+use Prim.Native.Nat.{ℕ, _+_, _-_, _*_, _<_, _≤_}
 use native.Mathlib.Omega.{arith}
-use borrow.Author.Tests.{lt-ltb}
+use borrow.Author.Tests.{lt-ltb, le-ltb, ltb-true, ltb-false}
 use lib.Dec.{ltb}
 use lib.Ieee.{Float}
 use lib.ListN.{length}
 use Rattle.complex.specs.declared.Complex.{Complex}
 use Rattle.layout.specs.declared.Layout.{Layout}
 use Rattle.layout.specs.declared.Layout.the-variants.{Bands20, Bands34}
-use Rattle.layout.specs.Numbers.{channelsOf}
+use Rattle.layout.specs.Numbers.{allPassOf, unsplitFromOf}
 use Rattle.lists.specs.Part.{part}
 use Rattle.lists.specs.Rows.{rows}
 use Rattle.lists.proofs.Parts.{part-length}
 use Rattle.lists.proofs.Rows.{rows-part}
 use Rattle.planar.specs.Cells.{cell, planar, overwritten}
-use Rattle.planar.specs.Frame.{sampleAt}
+use Rattle.planar.specs.Frame.{sampleAt, qmfAt, qmfBandOf, sampleIn}
 use Rattle.planar.proofs.Cells.{planar-at, planar-length}
 use Rattle.ps_hybrid_analysis.specs.Analysis.{slotAt, enough, samplesAfter}
 use Rattle.standard.specs.Hybrid.{hybrid}
 use Rattle.ps_decoder.proofs.Slots.{slotIn, slot-same}
 
-pub channels-few : (l : Layout) → channelsOf l ≤ 91
-channels-few Bands20 = omega arith
-channels-few Bands34 = omega arith
+all-pass-few : (l : Layout) → allPassOf l ≤ 50
+all-pass-few Bands20 = omega arith
+all-pass-few Bands34 = omega arith
+
+unsplit-first : (l : Layout) → unsplitFromOf l ≤ allPassOf l
+unsplit-first Bands20 = omega arith
+unsplit-first Bands34 = omega arith
 
 -- equal slots make equal samples
 hybrid-same : (l : Layout) (x y : ℕ → ℕ → Complex) (n k : ℕ) → ((p j : ℕ) → x p j ≡ y p j) → hybrid l x n k ≡ hybrid l y n k
 hybrid-same l x y n k same = ap (λ (z : ℕ → ℕ → Complex). hybrid l z n k) (λ i p j. same p j i)
 
-module _ (l : Layout) (history input samples : List Float) (slots : ℕ) (long : length samples ≡ 5824) where
+module _ (l : Layout) (history input samples : List Float) (slots : ℕ) (long : length samples ≡ 3200) where
   -- the run of channel k
   abbrev runOf : ℕ → List Float
   runOf k = planar 32 (overwritten slots (λ n. hybrid l (slotAt l history input) n k) (λ n. sampleAt samples n k))
 
   abbrev rowOf : ℕ → List Float
-  rowOf k = cond (ltb k (channelsOf l)) (runOf k) (part (64 * k) 64 samples)
+  rowOf k = cond (ltb k (allPassOf l)) (runOf k) (part (64 * k) 64 samples)
 
-  row-length : (k : ℕ) → k < 91 → length (rowOf k) ≡ 64
-  row-length k u = go (ltb k (channelsOf l))
+  row-length : (k : ℕ) → k < 50 → length (rowOf k) ≡ 64
+  row-length k u = go (ltb k (allPassOf l))
     where
       go : (t : Bool) → length (cond t (runOf k) (part (64 * k) 64 samples)) ≡ 64
       go true = planar-length 32 (overwritten slots (λ n. hybrid l (slotAt l history input) n k) (λ n. sampleAt samples n k))
       go false = part-length (64 * k) 64 samples (omega arith)
 
-  run-at : (k : ℕ) → k < channelsOf l → part (64 * k) 64 (rows rowOf 91) ≡ runOf k
+  run-at : (k : ℕ) → k < allPassOf l → part (64 * k) 64 (rows rowOf 50) ≡ runOf k
   run-at k u =
       let place : 64 * k ≡ k * 64 = omega arith in
-      ap (λ (a : ℕ). part a 64 (rows rowOf 91)) place
-      ∙ rows-part rowOf 64 91 row-length k (omega (arith, channels-few l))
-      ∙ ap (λ (t : Bool). cond t (runOf k) (part (64 * k) 64 samples)) (lt-ltb k (channelsOf l) u)
+      ap (λ (a : ℕ). part a 64 (rows rowOf 50)) place
+      ∙ rows-part rowOf 64 50 row-length k (omega (arith, all-pass-few l))
+      ∙ ap (λ (t : Bool). cond t (runOf k) (part (64 * k) 64 samples)) (lt-ltb k (allPassOf l) u)
 
-  pub sample-same : slots ≤ 32 → enough l history input slots ≡ true → (n k : ℕ) → n < slots → k < channelsOf l
+  column-same : slots ≤ 32 → enough l history input slots ≡ true → (n k : ℕ) → n < slots → k < allPassOf l
       → sampleAt (samplesAfter l history input slots samples) n k ≡ hybrid l (slotIn history input) n k
   unfolding samplesAfter
-  sample-same few room n k h u =
-      ap (λ (t : Bool). sampleAt (cond t (rows rowOf 91) samples) n k) room
+  column-same few room n k h u =
+      ap (λ (t : Bool). sampleAt (cond t (rows rowOf 50) samples) n k) room
       ∙ ap (λ (run : List Float). cell 32 run n) (run-at k u)
       ∙ planar-at 32 (overwritten slots (λ m. hybrid l (slotAt l history input) m k) (λ m. sampleAt samples m k)) n (omega arith)
       ∙ ap (λ (t : Bool). cond t (hybrid l (slotAt l history input) n k) (sampleAt samples n k)) (lt-ltb n slots h)
       ∙ hybrid-same l (slotAt l history input) (slotIn history input) n k (slot-same history input l)
+
+  -- a channel above the all-pass ones is no part of a split band
+  unsplit-above : (k : ℕ) → allPassOf l ≤ k → unsplitFromOf l ≤ k
+  unsplit-above k u = omega (arith, unsplit-first l)
+
+  pub sample-same : slots ≤ 32 → enough l history input slots ≡ true → (n k : ℕ) → n < slots
+      → sampleIn l (samplesAfter l history input slots samples) input n k ≡ hybrid l (slotIn history input) n k
+  unfolding hybrid
+  sample-same few room n k h = go (ltb k (allPassOf l)) refl
+    where
+      go : (t : Bool) → ltb k (allPassOf l) ≡ t
+          → cond t (sampleAt (samplesAfter l history input slots samples) n k) (qmfAt input n (qmfBandOf l k)) ≡ hybrid l (slotIn history input) n k
+      go true e = column-same few room n k h (ltb-true k (allPassOf l) e)
+      go false e =
+          let here : n + 6 - 6 ≡ n = omega arith in
+          rw (le-ltb k (unsplitFromOf l) (unsplit-above k (ltb-false k (allPassOf l) e)), le-ltb (n + 6) 6 (omega arith), here)

@@ -5,7 +5,7 @@ use mathlib.Core.Bool.{Bool, true, false, not, cond, _&&_}
 use mathlib.Core.List.{List}
 use Prim.Native.Nat.{ℕ, _+_, _*_, _%_, _<_, _≤_, min}
 use native.Mathlib.Omega.{arith}
-use borrow.Author.Tests.{eqb-true}
+use borrow.Author.Tests.{eqb-true, leb-true, le-leb}
 use lib.Dec.{eqb, leb}
 use lib.Ieee.{Float, nan}
 use lib.ListN.{length, getD, replicate, length-replicate}
@@ -16,11 +16,12 @@ use Rattle.cue.specs.declared.Header.{Header}
 use Rattle.layout.specs.Numbers.{bandsOf, channelsOf}
 use Rattle.lists.specs.Held.{held}
 use Rattle.lists.proofs.Maps.{tabulate-length}
-use Rattle.planar.specs.Frame.{sampleAt, qmfRows}
+use Rattle.planar.specs.Frame.{sampleIn, qmfRows}
+use Rattle.ps_allpass_channels.specs.Channels as chains
 use Rattle.ps_data.specs.declared.PsIndexState.{PsIndexState}
 use Rattle.ps_data.specs.declared.PsIndices.{PsIndices}
 use Rattle.ps_decorr.specs.Channels.{detectorsWith}
-use Rattle.ps_decorr_transient.specs.Gains.{detectorsAfter, gainsAfter}
+use Rattle.ps_decorr_transient.specs.Gains.{enough, detectorsAfter, gainsAfter}
 use Rattle.ps_state.specs.declared.PsDecoder.{PsDecoder}
 use Rattle.ps_state.specs.State.{coreOf, stored}
 use Rattle.ps_stereo.specs.Kept.{stereoWith}
@@ -35,7 +36,10 @@ use Rattle.ps_decoder.proofs.Slots.{slotIn, pastAfter, history-same}
 use Rattle.ps_decoder.proofs.Samples.{sample-same}
 use Rattle.ps_decoder.proofs.Ducking.{detectors-then, gain-same}
 use Rattle.ps_decoder.proofs.Coefficients.{matrix-then}
-use Rattle.ps_decoder.proofs.Channels.{Flat, left-after, right-after, delays-after, long-after, short-after}
+use Rattle.ps_decoder.proofs.Flat.{Flat}
+use Rattle.ps_decoder.proofs.Chains.{delays-after}
+use Rattle.ps_decoder.proofs.Delays.{long-after, short-after}
+use Rattle.ps_decoder.proofs.Sides.{chains-left-long, chains-right-long, left-after, right-after}
 
 -- the input has the rows that a frame reads, and each output exactly a frame's
 pub record Fitting (s : PsDecoder) (input left right : List Float) : Type 0 where
@@ -130,15 +134,22 @@ module _ (s : PsDecoder) (h : Header) (indices : PsIndices) (positions : List �
   borders-long : length (frame .head .borders) ≡ min (h .envelopes) 4
   borders-long = tabulate-length (borderOf slots (h .variable) (min (h .envelopes) 4) positions) (min (h .envelopes) 4)
 
-  sample-is : (n k : ℕ) → n < slots → k < channelsOf (s .layout) → sampleAt samples n k ≡ frame .sample n k
+  -- the input has a row for each slot
+  rows-there : 128 * slots ≤ length input
+  rows-there = let there : 128 * (slots + 6) ≤ length input = leb-true (128 * (slots + 6)) (length input) (fitting .room) in omega arith
+
+  ample : enough (s .layout) (s .decorr .detectors) samples input slots ≡ true
+  ample = le-leb (128 * slots) (length input) rows-there
+
+  sample-is : (n k : ℕ) → n < slots → k < channelsOf (s .layout) → sampleIn (s .layout) samples input n k ≡ frame .sample n k
   unfolding samplesOf
-  sample-is n k u w = sample-same (s .layout) (s .history) input (replicate 5824 zero) slots (length-replicate 5824 zero) few (fitting .room) n k u w
+  sample-is n k u w = sample-same (s .layout) (s .history) input (replicate 3200 zero) slots (length-replicate 3200 zero) few (fitting .room) n k u
 
   gain-is : (b n : ℕ) → b < bandsOf (s .layout) → n < slots → getD gains (32 * b + n) nan ≡ duck frame core b n
   unfolding gainsOf duck detectorThen powerThen coreOf
   gain-is b n u w =
-      ap (λ (m : ℕ). getD (gainsAfter (s .layout) (s .decorr .detectors) samples m (replicate 1088 zero)) (32 * b + n) nan) all-slots
-      ∙ gain-same (s .layout) (s .decorr .detectors) samples slots (frame .sample) sample-is (replicate 1088 zero) few b n u w
+      ap (λ (m : ℕ). getD (gainsAfter (s .layout) (s .decorr .detectors) samples input m (replicate 1088 zero)) (32 * b + n) nan) all-slots
+      ∙ gain-same (s .layout) (s .decorr .detectors) samples input slots (frame .sample) sample-is ample (replicate 1088 zero) few b n u w
 
   matrix-is : (b n : ℕ) → b < bandsOf (s .layout) → matrixIn (slotted.bordersOf (held 4 0 (frame .head .borders)) (h .envelopes)) (slotted.borderMatrix rows b) n ≡ matrixThen frame core b n
   unfolding rowsOf matrixThen keptThen borders.keptThen coreOf
@@ -146,15 +157,28 @@ module _ (s : PsDecoder) (h : Header) (indices : PsIndices) (positions : List �
       matrix-then (s .layout) (modesOf h) (h .config) indices (s .stereo) (replicate 1360 zero) (length-replicate 1360 zero) (frame .head .borders) (h .envelopes) b n borders-long u
 
   -- each stage's list holds what the definitions say
-  pub flat : Flat frame core (held 4 0 (frame .head .borders)) (h .envelopes) samples gains rows (s .decorr .delays) (s .decorr .long) (s .decorr .short)
+  pub flat : Flat frame core (held 4 0 (frame .head .borders)) (h .envelopes) samples input gains rows (s .decorr .delays) (s .decorr .long) (s .decorr .short)
   unfolding coreOf
   flat = record { sample = sample-is; gain = gain-is; matrix = matrix-is; channel = λ k. refl }
 
-  detectors-are : detectorsAfter (s .layout) (s .decorr .detectors) samples (min slots 32) ≡ detectorsWith (s .layout) (λ b. detectorThen frame core b slots) (s .decorr .detectors)
+  -- both sides as the all-pass channels leave them
+  abbrev lowLeft : List Float
+  lowLeft = chains.leftAfter (s .layout) (held 4 0 (frame .head .borders)) (h .envelopes) samples gains rows (s .decorr .delays) slots left right
+
+  abbrev lowRight : List Float
+  lowRight = chains.rightAfter (s .layout) (held 4 0 (frame .head .borders)) (h .envelopes) samples gains rows (s .decorr .delays) slots left right
+
+  low-left : length lowLeft ≡ 128 * slots
+  low-left = chains-left-long flat left right few (fitting .left-long) (fitting .right-long) rows-there
+
+  low-right : length lowRight ≡ 128 * slots
+  low-right = chains-right-long flat left right few (fitting .left-long) (fitting .right-long) rows-there
+
+  detectors-are : detectorsAfter (s .layout) (s .decorr .detectors) samples input (min slots 32) ≡ detectorsWith (s .layout) (λ b. detectorThen frame core b slots) (s .decorr .detectors)
   unfolding detectorThen powerThen coreOf
   detectors-are =
-      ap (detectorsAfter (s .layout) (s .decorr .detectors) samples) all-slots
-      ∙ detectors-then (s .layout) (s .decorr .detectors) samples slots (frame .sample) sample-is
+      ap (detectorsAfter (s .layout) (s .decorr .detectors) samples input) all-slots
+      ∙ detectors-then (s .layout) (s .decorr .detectors) samples input slots (frame .sample) sample-is ample
 
   stereo-is : borders.stereoAfter (s .layout) (modesOf h) (h .config) indices (s .stereo) (min (h .envelopes) 4)
       ≡ stereoWith (s .layout) (λ b. keptThen frame core b (length (frame .head .borders))) (s .stereo)
@@ -175,8 +199,8 @@ module _ (s : PsDecoder) (h : Header) (indices : PsIndices) (positions : List �
         decorr =
             record {
               delays = delays-after flat left right few (fitting .left-long) (fitting .right-long) i;
-              long = long-after flat left right few (fitting .left-long) (fitting .right-long) i;
-              short = short-after flat left right few (fitting .left-long) (fitting .right-long) i;
+              long = long-after flat lowLeft lowRight few low-left low-right rows-there i;
+              short = short-after flat lowLeft lowRight few low-left low-right rows-there i;
               detectors = detectors-are i;
             };
         stereo = stereo-is i;
@@ -186,7 +210,7 @@ module _ (s : PsDecoder) (h : Header) (indices : PsIndices) (positions : List �
   unfolding leftOf rightOf
   sound-is =
       record {
-        left-is = left-after flat left right few (fitting .left-long) (fitting .right-long);
-        right-is = right-after flat left right few (fitting .left-long) (fitting .right-long);
+        left-is = left-after flat left right few (fitting .left-long) (fitting .right-long) rows-there;
+        right-is = right-after flat left right few (fitting .left-long) (fitting .right-long) rows-there;
         state-is = state-same;
       }

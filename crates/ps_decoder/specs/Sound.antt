@@ -1,4 +1,5 @@
--- An accepted frame by its stages, each over flat lists: analysis, ducking factors, coefficients at the borders, channels. Assumes nothing.
+-- An accepted frame by its stages, each over flat lists: analysis, ducking factors, coefficients at the borders, all-pass channels, plain delays.
+-- Assumes nothing.
 use Prim.Native.Nat.{ℕ, min}
 use mathlib.Core.Bool.{true}
 use mathlib.Core.List.{List}
@@ -13,8 +14,9 @@ use Rattle.calls.specs.Call.{modesOf}
 use Rattle.ps_data.specs.declared.PsIndexState.{PsIndexState}
 use Rattle.ps_data.specs.declared.PsIndices.{PsIndices}
 use Rattle.ps_data.specs.declared.Resolved.{Resolved}
-use Rattle.ps_channels.specs.Channels as channels
+use Rattle.ps_allpass_channels.specs.Channels as chains
 use Rattle.ps_decorr_transient.specs.Gains as gains
+use Rattle.ps_delay_channels.specs.Channels as delays
 use Rattle.ps_hybrid_analysis.specs.Analysis as analysis
 use Rattle.ps_stereo_borders.specs.Borders as borders
 use Rattle.ps_state.specs.declared.PsDecoder.{PsDecoder}
@@ -32,24 +34,28 @@ module _ (s : PsDecoder) (h : Header) (indices : PsIndices) (positions : List �
   places = held 4 0 (bordersOf slots (h .variable) count positions)
 
   unfoldable pub samplesOf : List Float
-  samplesOf = analysis.samplesAfter (s .layout) (s .history) input slots (replicate 5824 zero)
+  samplesOf = analysis.samplesAfter (s .layout) (s .history) input slots (replicate 3200 zero)
 
   unfoldable pub gainsOf : List Float
-  gainsOf = gains.gainsAfter (s .layout) (s .decorr .detectors) samplesOf (min slots 32) (replicate 1088 zero)
+  gainsOf = gains.gainsAfter (s .layout) (s .decorr .detectors) samplesOf input (min slots 32) (replicate 1088 zero)
 
   unfoldable pub rowsOf : List Float
   rowsOf = borders.rowsAfter (s .layout) (modesOf h) (h .config) indices (s .stereo) count (replicate 1360 zero)
 
-  -- a result of the channels
-  abbrev throughChannels : (Layout → List ℕ → ℕ → List Float → List Float → List Float → List Float → List Float → List Float → ℕ → List Float → List Float → List Float) → List Float
-  throughChannels result =
-      result (s .layout) places (h .envelopes) samplesOf gainsOf rowsOf (s .decorr .delays) (s .decorr .long) (s .decorr .short) slots left right
+  -- a result of the all-pass channels
+  abbrev throughChains : (Layout → List ℕ → ℕ → List Float → List Float → List Float → List Float → ℕ → List Float → List Float → List Float) → List Float
+  throughChains result = result (s .layout) places (h .envelopes) samplesOf gainsOf rowsOf (s .decorr .delays) slots left right
+
+  -- and of the plain delays, on both sides as the all-pass channels left them
+  abbrev throughDelays : (Layout → List ℕ → ℕ → List Float → List Float → List Float → List Float → List Float → ℕ → List Float → List Float → List Float) → List Float
+  throughDelays result =
+      result (s .layout) places (h .envelopes) input gainsOf rowsOf (s .decorr .long) (s .decorr .short) slots (throughChains chains.leftAfter) (throughChains chains.rightAfter)
 
   unfoldable pub leftOf : List Float
-  leftOf = throughChannels channels.leftAfter
+  leftOf = throughDelays delays.leftAfter
 
   unfoldable pub rightOf : List Float
-  rightOf = throughChannels channels.rightAfter
+  rightOf = throughDelays delays.rightAfter
 
   unfoldable pub sounded : PsIndexState → PsDecoder
   sounded kept =
@@ -62,10 +68,10 @@ module _ (s : PsDecoder) (h : Header) (indices : PsIndices) (positions : List �
         history = analysis.historyAfter (s .layout) (s .history) input slots;
         decorr =
             record {
-              delays = throughChannels channels.delaysAfter;
-              long = throughChannels channels.longAfter;
-              short = throughChannels channels.shortAfter;
-              detectors = gains.detectorsAfter (s .layout) (s .decorr .detectors) samplesOf (min slots 32);
+              delays = throughChains chains.delaysAfter;
+              long = throughDelays delays.longAfter;
+              short = throughDelays delays.shortAfter;
+              detectors = gains.detectorsAfter (s .layout) (s .decorr .detectors) samplesOf input (min slots 32);
             };
         stereo = borders.stereoAfter (s .layout) (modesOf h) (h .config) indices (s .stereo) count;
       }

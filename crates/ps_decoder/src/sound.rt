@@ -52,10 +52,10 @@ pub fn sound(
     let layout = carried.layout;
     let envelopes = header.envelopes as usize;
     let slots = borders::slots(carried.asked);
-    let mut samples = [0.0; 5824];
+    let mut samples = [0.0; 3200];
     ps_hybrid_analysis::analyse(layout, carried.asked, history, input, &mut samples);
     let mut gains = [0.0; 1088];
-    ps_decorr_transient::duck(layout, detectors, &samples, slots, &mut gains);
+    ps_decorr_transient::duck(layout, detectors, &samples, input, slots, &mut gains);
     let stereo = carried.stereo;
     let mut rows = [0.0; 1360];
     let config = header.config;
@@ -69,7 +69,7 @@ pub fn sound(
         &mut rows,
     );
     let places = borders::borders(carried.asked, header.variable, envelopes, positions);
-    ps_channels::channels(
+    ps_allpass_channels::allpass_channels(
         layout,
         places,
         envelopes,
@@ -77,6 +77,17 @@ pub fn sound(
         &gains,
         &rows,
         delays,
+        slots,
+        left,
+        right,
+    );
+    ps_delay_channels::delay_channels(
+        layout,
+        places,
+        envelopes,
+        input,
+        &gains,
+        &rows,
         long,
         short,
         slots,

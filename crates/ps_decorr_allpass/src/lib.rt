@@ -226,7 +226,7 @@ fn frame(chain: Chain, memory: &mut [f64], samples: &[f64], slots: usize, out: &
 // Channel k's part of the memory and of the samples, lent to its frame.
 fn lend(chain: Chain, memory: &mut [f64], samples: &[f64], k: usize, slots: usize, out: &mut [f64])
     requires { ⌜ (k < 50) × (slots ≤ 32) ⌝ }
-    requires { ⌜ (length (now memory) ≡ 1400) × (length (now samples) ≡ 5824) × (length (now out) ≡ 64) ⌝ }
+    requires { ⌜ (length (now memory) ≡ 1400) × (length (now samples) ≡ 3200) × (length (now out) ≡ 64) ⌝ }
     ensures memory { λ _. ⌜ now (memory .exit) ≡ put (28 * k) 28 (now (memory .entry))
         (memoryOf (channelThen chain (now (memory .entry)) (now (samples .entry)) k slots)) ⌝ }
     ensures out { λ _. ⌜ now (out .exit) ≡ outputs chain (channelOf (part (28 * k) 28 (now (memory .entry))))
@@ -253,7 +253,7 @@ fn least(a: usize, b: usize) -> usize
 pub fn all_pass(
     chain: Chain,
     memory: &mut [f64; 1400],
-    samples: &[f64; 5824],
+    samples: &[f64; 3200],
     k: usize,
     slots: usize,
     out: &mut [f64; 64],

@@ -1,10 +1,9 @@
 -- A detector that is kept is read again, and every other is as it was. Assumes nothing.
 use mathlib.Core.Path.{_≡_, refl, sym, ap, ap₂, _∙_}
-use mathlib.Core.Logic.{_⊎_, inl, inr, _≢_}
+use mathlib.Core.Logic.{_≢_}
 use mathlib.Core.Bool.{Bool, true, false, cond}
 use mathlib.Core.List.{List, _++_}
 use Prim.Native.Nat.{ℕ, _+_, _<_, _≤_}
-use native.Mathlib.Nat.{eq-or-lt-of-le}
 use native.Mathlib.Omega.{arith}
 use borrow.Author.Tests.{ltb-true, ltb-false}
 use lib.Dec.{ltb}
@@ -51,23 +50,42 @@ module _ (memory : List Float) (b : ℕ) (d : Detector) (small : b < 34) where
       (other (i + 68) (λ (e : i + 68 ≡ b). omega arith) (λ (e : i + 68 ≡ b + 34). omega arith) (λ (e : i + 68 ≡ b + 68). n (omega arith)))
 
 -- ---- band after band
-pub detected-none : (new : ℕ → Detector) (l : List Float) → Detected 0 new l l
-detected-none new l = record { long = refl; inside = λ b u. absurd (omega arith); outside = λ b u w. refl }
+pub detected-none : (first : ℕ) (new : ℕ → Detector) (l : List Float) → Detected first first new l l
+detected-none first new l = record { long = refl; inside = λ b u v. absurd (omega arith); outside = λ b u o. refl }
 
-pub detected-more : {bands : ℕ} {new : ℕ → Detector} {old l : List Float} → Detected bands new old l → (d : Detector) → d ≡ new bands → bands < 34 → length old ≡ 102 → Detected (bands + 1) new old (kept l bands d)
-detected-more {bands} {new} {old} {l} r d e small long =
+pub detected-and : {first middle last : ℕ} {new : ℕ → Detector} {old l next : List Float} → Detected first middle new old l → Detected middle last new l next
+    → first ≤ middle → middle ≤ last → last ≤ 34 → Detected first last new old next
+detected-and {first} {middle} {last} {new} {old} {l} {next} r s low high all =
     record {
-      long = kept-length l bands d small ∙ r .long;
-      inside = λ b u. one b (eq-or-lt-of-le (at-most b u));
-      outside = λ b u w. kept-other l bands d small b w (λ (q : b ≡ bands). omega arith) ∙ r .outside b (omega arith) w;
+      long = s .long ∙ r .long;
+      inside = λ b u v. one b u v (ltb b middle) refl;
+      outside = λ b u o. s .outside b u (λ g h. o (omega arith) h) ∙ r .outside b u (λ g h. o g (omega arith));
     }
   where
-    at-most : (b : ℕ) → b < bands + 1 → b ≤ bands
-    at-most b u = omega arith
+    one : (b : ℕ) → first ≤ b → b < last → (t : Bool) → ltb b middle ≡ t → detectorOf next b ≡ new b
+    one b u v true e =
+        let below : b < middle = ltb-true b middle e in
+        s .outside b (omega arith) (λ g h. omega arith) ∙ r .inside b u below
+    one b u v false e = s .inside b (ltb-false b middle e) v
 
-    one : (b : ℕ) → (b ≡ bands) ⊎ (b < bands) → detectorOf (kept l bands d) b ≡ new b
-    one b (inl q) = ap (detectorOf (kept l bands d)) q ∙ kept-same l bands d small (r .long ∙ long) ∙ e ∙ ap new (sym q)
-    one b (inr u) = kept-other l bands d small b (omega arith) (λ (q : b ≡ bands). omega arith) ∙ r .inside b u
+detected-one : (new : ℕ → Detector) (l : List Float) (b : ℕ) (d : Detector) → d ≡ new b → b < 34 → length l ≡ 102 → Detected b (b + 1) new l (kept l b d)
+detected-one new l b d e small long =
+    record {
+      long = kept-length l b d small;
+      inside = λ i u v.
+          let same : i ≡ b = omega arith in
+          ap (detectorOf (kept l b d)) same ∙ kept-same l b d small long ∙ e ∙ ap new (sym same);
+      outside = λ i u o. kept-other l b d small i u (λ (q : i ≡ b). o (omega arith) (omega arith));
+    }
+
+pub detected-more : {first b : ℕ} {new : ℕ → Detector} {old l next : List Float} {d : Detector} → Detected first b new old l → (last : ℕ) → last ≡ b + 1 → next ≡ kept l b d → d ≡ new b
+    → first ≤ b → b < 34 → length old ≡ 102 → Detected first last new old next
+detected-more {first} {b} {new} {old} {l} {next} {d} r last one is e low small long =
+    rw (is, one) (detected-and r (detected-one new l b d e small (r .long ∙ long)) low (omega arith) (omega arith))
+
+-- the new ones by another name
+pub detected-same : {first last : ℕ} {new other : ℕ → Detector} {old l : List Float} → Detected first last new old l → ((b : ℕ) → first ≤ b → b < last → new b ≡ other b) → Detected first last other old l
+detected-same r e = record { long = r .long; inside = λ b u v. r .inside b u v ∙ e b u v; outside = r .outside }
 
 -- ---- the list of 34 detectors
 module _ (l : List Float) (f : ℕ → Detector) (long : length l ≡ 102) (each : (b : ℕ) → b < 34 → detectorOf l b ≡ f b) where
@@ -97,11 +115,11 @@ module _ (l : List Float) (f : ℕ → Detector) (long : length l ≡ 102) (each
       ∙ ap₂ (λ (p q : List Float). p ++ q) (third 34 (λ b. f b .smooth) (omega arith) (λ b u. ap (λ (d : Detector). d .smooth) (each b u))) last)
 
 -- where the new ones are given by another name
-pub detected-all : {bands : ℕ} {new : ℕ → Detector} {old l : List Float} → Detected bands new old l → (f : ℕ → Detector) → ((b : ℕ) → b < bands → new b ≡ f b) → length old ≡ 102
+pub detected-all : {bands : ℕ} {new : ℕ → Detector} {old l : List Float} → Detected 0 bands new old l → (f : ℕ → Detector) → ((b : ℕ) → b < bands → new b ≡ f b) → length old ≡ 102
     → l ≡ tabulate (λ b. overwritten bands f (detectorOf old) b .peak) 34
     ++ (tabulate (λ b. overwritten bands f (detectorOf old) b .smooth) 34 ++ tabulate (λ b. overwritten bands f (detectorOf old) b .difference) 34)
 detected-all {bands} {new} {old} {l} r f e long = detectors-are l (overwritten bands f (detectorOf old)) (r .long ∙ long) (λ b u. one b u (ltb b bands) refl)
   where
     one : (b : ℕ) → b < 34 → (t : Bool) → ltb b bands ≡ t → detectorOf l b ≡ cond t (f b) (detectorOf old b)
-    one b u true h = let w : b < bands = ltb-true b bands h in r .inside b w ∙ e b w
-    one b u false h = r .outside b (ltb-false b bands h) u
+    one b u true h = let w : b < bands = ltb-true b bands h in r .inside b (omega arith) w ∙ e b w
+    one b u false h = let past : bands ≤ b = ltb-false b bands h in r .outside b u (λ g k. omega arith)

@@ -1,79 +1,98 @@
--- Adding a channel to its band's row is one step of `powerTo` for every band. Assumes nothing.
+-- Adding a channel to its band's row is one step of `powerTo` for every band, and the channels of the samples and the columns of the input are all channels.
+-- Assumes nothing.
 use mathlib.Core.Path.{_≡_, refl, sym, ap, ap₂, _∙_}
 use mathlib.Core.Bool.{Bool, true, false, cond}
 use mathlib.Core.List.{List}
-use Prim.Native.Nat.{ℕ, _+_, _*_, _<_, _≤_}
+use Prim.Native.Nat.{ℕ, _+_, _-_, _*_, _<_, _≤_}
 use native.Mathlib.Numerals.{add-one}
 use native.Mathlib.Omega.{arith}
-use borrow.Author.Tests.{eqb-true, eqb-false}
+use borrow.Author.Tests.{eqb-true, eqb-false, lt-ltb, le-ltb}
 use lib.Dec.{eqb}
 use lib.Ieee.{Float, nan}
-use lib.ListN.{length, getD}
+use lib.ListN.{getD}
 use Rattle.complex.specs.declared.Complex.{Complex}
 use Rattle.complex.specs.Operations.{squaredMagnitude}
 use Rattle.layout.specs.declared.Layout.{Layout}
 use Rattle.layout.specs.declared.Layout.the-variants.{Bands20, Bands34}
-use Rattle.layout.specs.Numbers.{bandsOf, channelsOf}
+use Rattle.layout.specs.Numbers.{bandsOf, channelsOf, allPassOf, splitOf, unsplitFromOf}
 use Rattle.lists.proofs.Parts.{part-at}
-use Rattle.planar.specs.Cells.{cell}
-use Rattle.planar.specs.Frame.{sampleAt}
+use Rattle.planar.specs.Frame.{sampleAt, qmfBandOf, sampleIn}
 use Rattle.planar.proofs.Cells.{by-parts}
 use Rattle.ps_map.specs.Bands.{parameterMap, bandOf}
 use Rattle.ps_map.proofs.Bands.{band-small}
 use Rattle.standard.specs.Numbers as numbers
 use Rattle.standard.specs.Numbers.{_⊕_}
 use Rattle.standard.specs.Detector.{powerTo}
-use Rattle.ps_decorr_transient.specs.Rows.{Row, Rowed, Cleared, added}
+use Rattle.ps_decorr_transient.specs.Gains.{powerAt}
+use Rattle.ps_decorr_transient.specs.Rows.{Row, Rowed, Cleared, Banded, Summed, added, inRow, inColumn}
 use Rattle.ps_decorr_transient.proofs.Rows.{row-other, rowed-cleared}
 
--- slot n of channel k where it stands in the frame
-sample-is : (samples : List Float) (k n : ℕ) → n < 32 → cell 32 samples (64 * k + n) ≡ sampleAt samples n k
-sample-is samples k n u =
-    let behind : 64 * k + n + 32 ≡ 64 * k + (n + 32) = omega arith in
-    by-parts (sym (part-at _ 64 samples n nan (omega arith))) (ap (λ (i : ℕ). getD samples i nan) behind ∙ sym (part-at _ 64 samples (n + 32) nan (omega arith)))
-
 -- the powers of the channels below k
-abbrev pub powers : Layout → List Float → ℕ → ℕ → ℕ → Float
-powers l samples k b n = powerTo l (sampleAt samples n) b k
+abbrev powers : Layout → (ℕ → ℕ → Complex) → ℕ → ℕ → ℕ → Float
+powers l sample k b n = powerTo l (sample n) b k
 
-module _ (l : Layout) (samples : List Float) (k : ℕ) {slots band : ℕ} {old gains next : List Float}
-    (r : Rowed (bandsOf l) slots (powers l samples k) old gains) (s : Row (added gains (32 * band) samples (64 * k)) (32 * band) slots gains next)
-    (is : band ≡ bandOf l k) (few : slots ≤ 32) where
+-- ---- one channel
+module _ (l : Layout) (sample : ℕ → ℕ → Complex) (k : ℕ) {channel : ℕ → Complex} {slots band : ℕ} {old gains next : List Float}
+    (r : Rowed 0 (bandsOf l) slots (powers l sample k) old gains) (s : Row (added gains (32 * band) channel) (32 * band) slots gains next)
+    (is : band ≡ bandOf l k) (own : (n : ℕ) → n < slots → channel n ≡ sample n k) (few : slots ≤ 32) where
   inside : (b n : ℕ) → b < bandsOf l → n < slots → (t : Bool) → eqb (bandOf l k) b ≡ t
-      → getD next (32 * b + n) nan ≡ cond t (powers l samples k b n ⊕ squaredMagnitude (sampleAt samples n k)) (powers l samples k b n)
+      → getD next (32 * b + n) nan ≡ cond t (powers l sample k b n ⊕ squaredMagnitude (sample n k)) (powers l sample k b n)
   unfolding added
   inside b n u w true e =
       let here : 32 * b + n ≡ 32 * band + n = omega (arith, eqb-true (bandOf l k) b e) in
       ap (λ (i : ℕ). getD next i nan) here ∙ s .inside n w
-      ∙ ap₂ (λ (p : Float) (z : Complex). p ⊕ squaredMagnitude z) (ap (λ (i : ℕ). getD gains i nan) (sym here) ∙ r .inside b n u w) (sample-is samples k n (omega arith))
-  inside b n u w false e = row-other s few b n (omega arith) (λ h v. eqb-false (bandOf l k) b e (sym (h ∙ is))) ∙ r .inside b n u w
+      ∙ ap₂ (λ (p : Float) (z : Complex). p ⊕ squaredMagnitude z) (ap (λ (i : ℕ). getD gains i nan) (sym here) ∙ r .inside b n (omega arith) u w) (own n w)
+  inside b n u w false e = row-other s few b n (omega arith) (λ h v. eqb-false (bandOf l k) b e (sym (h ∙ is))) ∙ r .inside b n (omega arith) u w
 
-  pub powers-more : Rowed (bandsOf l) slots (powers l samples (k + 1)) old next
+  powers-more : Rowed 0 (bandsOf l) slots (powers l sample (k + 1)) old next
   unfolding powerTo
   powers-more =
       record {
         long = s .long ∙ r .long;
-        inside = λ b n u w. inside b n u w (eqb (bandOf l k) b) refl ∙ rw (add-one k);
-        outside = λ b n u w o. row-other s few b n w (λ h v. o (rw (h ∙ is) (band-small l k)) v) ∙ r .outside b n u w o;
+        inside = λ b n g u w. inside b n u w (eqb (bandOf l k) b) refl ∙ rw (add-one k);
+        outside = λ b n u w o. row-other s few b n w (λ h v. o (omega arith) (rw (h ∙ is) (band-small l k)) v) ∙ r .outside b n u w o;
       }
 
--- no channel yet
-powers-none : (l : Layout) (samples : List Float) (b n : ℕ) → powers l samples 0 b n ≡ numbers.zero
-unfolding powerTo
-powers-none l samples b n = refl
+-- ---- channel after channel, which the loops know by the map alone
+pub summed-none : (map : List ℕ) (channel : ℕ → ℕ → Complex) (first slots : ℕ) (gains : List Float) → Summed map channel first first slots gains gains
+summed-none map channel first slots gains = record { long = refl; rows = λ l sample start e own r. r }
 
--- ---- the loop over the channels, which knows the layout by its map alone
-pub record Summed (samples : List Float) (slots : ℕ) (map : List ℕ) (old gains : List Float) (k : ℕ) : Type 0 where
-  pub long : length gains ≡ length old
-  pub rows : (l : Layout) → map ≡ parameterMap l → Cleared numbers.zero (bandsOf l) slots old → Rowed (bandsOf l) slots (powers l samples k) old gains
+pub summed-more : {map : List ℕ} {channel : ℕ → ℕ → Complex} {first k slots : ℕ} {old gains next : List Float} → Summed map channel first k slots old gains
+    → Row (added gains (32 * getD map k 0) (channel k)) (32 * getD map k 0) slots gains next → first ≤ k → slots ≤ 32 → Summed map channel first (k + 1) slots old next
+summed-more {k = k} r s low few =
+    record {
+      long = s .long ∙ r .long;
+      rows = λ l sample start e own h.
+          powers-more l sample k (r .rows l sample start e (λ i n u v w. own i n u (omega arith) w) h) s (ap (λ (t : List ℕ). getD t k 0) e)
+          (λ n w. own k n low (omega arith) w) few;
+    }
 
-pub summed-none : (samples : List Float) (slots : ℕ) (map : List ℕ) (gains : List Float) → Summed samples slots map gains gains 0
-summed-none samples slots map gains = record { long = refl; rows = λ l e h. rowed-cleared h (powers l samples 0) (powers-none l samples) }
+-- ---- all channels: those of the samples, then those of the input
+-- slot n of channel k where it stands in the frame
+sample-is : (samples : List Float) (k n : ℕ) → n < 32 → inRow samples (64 * k) n ≡ sampleAt samples n k
+sample-is samples k n u =
+    let behind : 64 * k + n + 32 ≡ 64 * k + (n + 32) = omega arith in
+    by-parts (sym (part-at _ 64 samples n nan (omega arith))) (ap (λ (i : ℕ). getD samples i nan) behind ∙ sym (part-at _ 64 samples (n + 32) nan (omega arith)))
 
-pub summed-more : {samples : List Float} {slots : ℕ} {map : List ℕ} {old gains next : List Float} {k : ℕ} → Summed samples slots map old gains k
-    → Row (added gains (32 * getD map k 0) samples (64 * k)) (32 * getD map k 0) slots gains next → slots ≤ 32 → Summed samples slots map old next (k + 1)
-summed-more {samples} {k = k} r s few =
-    record { long = s .long ∙ r .long; rows = λ l e h. powers-more l samples k (r .rows l e h) s (ap (λ (t : List ℕ). getD t k 0) e) few }
+band-is : (l : Layout) (k : ℕ) → allPassOf l ≤ k → k - allPassOf l + (allPassOf l + splitOf l - unsplitFromOf l) ≡ qmfBandOf l k
+band-is Bands20 k h = omega arith
+band-is Bands34 k h = omega arith
+
+module _ (l : Layout) (samples input : List Float) (slots : ℕ) (few : slots ≤ 32) where
+  below : (k n : ℕ) → k < allPassOf l → n < slots → inRow samples (64 * k) n ≡ sampleIn l samples input n k
+  below k n u w = rw (lt-ltb k (allPassOf l) u) (sample-is samples k n (omega arith))
+
+  above : (k n : ℕ) → allPassOf l ≤ k → inColumn input (2 * (k - allPassOf l + (allPassOf l + splitOf l - unsplitFromOf l))) n ≡ sampleIn l samples input n k
+  above k n u = rw (le-ltb k (allPassOf l) u, band-is l k u)
+
+  pub powers-all : {map : List ℕ} {start gains next : List Float} → map ≡ parameterMap l → Cleared numbers.zero (bandsOf l) slots start
+      → Summed map (λ k. inRow samples (64 * k)) 0 (allPassOf l) slots start gains
+      → Summed map (λ k. inColumn input (2 * (k - allPassOf l + (allPassOf l + splitOf l - unsplitFromOf l)))) (allPassOf l) (channelsOf l) slots gains next
+      → Rowed 0 (bandsOf l) slots (powerAt l samples input) start next
+  unfolding powerAt powerTo
+  powers-all {start = start} e clear r s =
+      s .rows l (sampleIn l samples input) start e (λ k n u v w. above k n u)
+      (r .rows l (sampleIn l samples input) start e (λ k n u v w. below k n v w) (rowed-cleared clear _ (λ b n. refl)))
 
 -- ---- the layouts' numbers
 pub bands-fit : (l : Layout) → bandsOf l ≤ 34
@@ -83,6 +102,17 @@ bands-fit Bands34 = omega arith
 pub band-fits : (l : Layout) (map : List ℕ) (k : ℕ) → map ≡ parameterMap l → getD map k 0 < 34
 band-fits l map k e = rw e (omega (arith, band-small l k, bands-fit l))
 
-pub channels-fit : (l : Layout) → channelsOf l ≤ 91
-channels-fit Bands20 = omega arith
-channels-fit Bands34 = omega arith
+pub map-banded : (l : Layout) (map : List ℕ) → map ≡ parameterMap l → Banded map
+map-banded l map e = record { small = λ k. band-fits l map k e }
+
+pub record Fitting (passes channels split unsplit-from : ℕ) : Type 0 where
+  pub rows : passes ≤ 50
+  pub places : channels ≤ 91
+  pub above : passes ≤ channels
+  pub behind : passes + split ≤ 64
+  pub unsplit : unsplit-from ≤ passes + split
+  pub columns : channels - passes + (passes + split - unsplit-from) ≤ 64
+
+pub numbers-fit : (l : Layout) → Fitting (allPassOf l) (channelsOf l) (splitOf l) (unsplitFromOf l)
+numbers-fit Bands20 = record { rows = omega arith; places = omega arith; above = omega arith; behind = omega arith; unsplit = omega arith; columns = omega arith }
+numbers-fit Bands34 = record { rows = omega arith; places = omega arith; above = omega arith; behind = omega arith; unsplit = omega arith; columns = omega arith }

@@ -6,7 +6,7 @@ use native.Mathlib.Nat.{mul-le-mul}
 use native.Mathlib.Omega.{arith}
 use Rattle.layout.specs.declared.Layout.{Layout}
 use Rattle.layout.specs.declared.Layout.the-variants.{Bands20, Bands34}
-use Rattle.layout.specs.Numbers.{splitOf, unsplitFromOf, channelsOf}
+use Rattle.layout.specs.Numbers.{splitOf, unsplitFromOf, allPassOf}
 use Rattle.decimals.specs.declared.Prototype.{Prototype}
 use Rattle.decimals.specs.declared.Prototype.the-variants.{EighthsOfBand0, Halves, Twelfths, EighthsOfBand1, Quarters}
 use Rattle.standard.specs.Hybrid.{prototypeFor, filtersOf, channelFor, spanOf}
@@ -101,18 +101,18 @@ pub split-most : (l : Layout) → splitOf l ≤ 5
 split-most Bands20 = omega arith
 split-most Bands34 = omega arith
 
-pub unsplit-fits : (l : Layout) → (splitOf l ≤ 5) × ((unsplitFromOf l ≤ channelsOf l) × ((channelsOf l ≤ 91) × (channelsOf l + splitOf l ≤ unsplitFromOf l + 64)))
+pub unsplit-fits : (l : Layout) → (splitOf l ≤ 5) × ((unsplitFromOf l ≤ allPassOf l) × ((allPassOf l ≤ 50) × (allPassOf l + splitOf l ≤ unsplitFromOf l + 64)))
 unsplit-fits Bands20 = (omega arith, (omega arith, (omega arith, omega arith)))
 unsplit-fits Bands34 = (omega arith, (omega arith, (omega arith, omega arith)))
 
--- the channel of a filter with 91 channels
-pub channel-91 : (p q : ℕ) → p < 5 → channelFor Bands34 p q ≡ spanOf Bands34 p + q
-channel-91 zero q h = refl
-channel-91 (suc zero) q h = refl
-channel-91 (suc (suc zero)) q h = refl
-channel-91 (suc (suc (suc zero))) q h = refl
-channel-91 (suc (suc (suc (suc zero)))) q h = refl
-channel-91 (suc (suc (suc (suc (suc p))))) q h = absurd (omega arith)
+-- the channel of a filter of the layout with 34 bands
+pub channel-of-34 : (p q : ℕ) → p < 5 → channelFor Bands34 p q ≡ spanOf Bands34 p + q
+channel-of-34 zero q h = refl
+channel-of-34 (suc zero) q h = refl
+channel-of-34 (suc (suc zero)) q h = refl
+channel-of-34 (suc (suc (suc zero))) q h = refl
+channel-of-34 (suc (suc (suc (suc zero)))) q h = refl
+channel-of-34 (suc (suc (suc (suc (suc p))))) q h = absurd (omega arith)
 
 -- ---- a filter's channel is in its band's span
 pub record Inside (l : Layout) (p q : ℕ) : Type 0 where

@@ -30,7 +30,7 @@ module _ (l : Layout) (p : ℕ) (x : ℕ → Complex) {slots from to : ℕ} {old
 
   pub joined-more : (q : ℕ) (t : Prototype) {mid new : List Float} → t ≡ prototypeFor l p → Written slots from to (λ k n. joinedTo l p x n k q) old mid
       → Written slots (channelFor l p q) (channelFor l p q + 1) (λ k n. sum (sampleAt mid n k) (filtered t q x n)) mid new
-      → slots ≤ 32 → to ≤ 91 → from ≤ channelFor l p q → channelFor l p q < to → Written slots from to (λ k n. joinedTo l p x n k (q + 1)) old new
+      → slots ≤ 32 → to ≤ 50 → from ≤ channelFor l p q → channelFor l p q < to → Written slots from to (λ k n. joinedTo l p x n k (q + 1)) old new
   unfolding joinedTo
   joined-more q t {mid} {new} g r s few most u v =
       record {

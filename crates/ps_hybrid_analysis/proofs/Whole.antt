@@ -9,7 +9,7 @@ use lib.Ieee.{Float}
 use lib.ListN.{length}
 use Rattle.answer.specs.declared.Answer.the-variants.{Done, Buffers}
 use Rattle.layout.specs.declared.Layout.{Layout}
-use Rattle.layout.specs.Numbers.{splitOf, unsplitFromOf, channelsOf}
+use Rattle.layout.specs.Numbers.{splitOf, unsplitFromOf, allPassOf}
 use Rattle.lists.specs.Part.{part}
 use Rattle.planar.specs.Cells.{cell, planar}
 use Rattle.standard.specs.Hybrid.{hybrid}
@@ -34,8 +34,8 @@ module _ (l : Layout) (history input samples : List Float) (slots : ℕ) where
   pub done : {kept mid new : List Float} → 128 * (slots + 6) ≤ length input
       → Kept (splitOf l) (λ p. planar 6 (λ j. bandAt (part (12 * p) 12 history) input p (slots + j))) history kept
       → Written slots 0 (unsplitFromOf l) (λ k n. hybrid l (slotAt l history input) n k) samples mid
-      → Written slots (unsplitFromOf l) (channelsOf l) (λ k n. cell 1 input (128 * n + 2 * (k + splitOf l - unsplitFromOf l))) mid new
-      → slots ≤ 32 → length history ≡ 60 → length samples ≡ 5824
+      → Written slots (unsplitFromOf l) (allPassOf l) (λ k n. cell 1 input (128 * n + 2 * (k + splitOf l - unsplitFromOf l))) mid new
+      → slots ≤ 32 → length history ≡ 60 → length samples ≡ 3200
       → (Done ≡ answerOf l history input slots) × ((kept ≡ historyAfter l history input slots) × (new ≡ samplesAfter l history input slots samples))
   unfolding historyAfter samplesAfter
   done h r s t few a b =

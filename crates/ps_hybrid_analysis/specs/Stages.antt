@@ -11,6 +11,7 @@ use Rattle.complex.specs.declared.Complex.{Complex}
 use Rattle.complex.specs.Operations.{product, sum}
 use Rattle.decimals.specs.declared.Prototype.{Prototype}
 use Rattle.decimals.specs.declared.Prototype.the-variants.{EighthsOfBand0, Halves, Twelfths, EighthsOfBand1, Quarters}
+use Rattle.fixed.specs.Real.{pairAt}
 use Rattle.lists.specs.Part.{part}
 use Rattle.planar.specs.Cells.{cell}
 use Rattle.planar.specs.Frame.{sampleAt}
@@ -54,6 +55,10 @@ orderOf Twelfths = 24
 orderOf EighthsOfBand1 = 16
 orderOf Quarters = 8
 
+-- the roots of a table as floats: root t stands at 2 t, its imaginary part behind it
+pub record Waves (roots : List ℤ) (order : ℕ) (waves : List Float) : Type 0 where
+  pub at : (t : ℕ) → t < order → cell 1 waves (2 * t) ≡ pairAt roots (2 * t)
+
 -- the root of filter q's tap m
 abbrev pub turnOf : Prototype → ℕ → ℕ → ℕ
 turnOf EighthsOfBand0 q m = ((2 * q + 1) * (m + 42)) % 16
@@ -78,8 +83,8 @@ pub record Written (slots from to : ℕ) (f : ℕ → ℕ → Complex) (old new 
   pub long : length new ≡ length old
   pub inside : (k n : ℕ) → from ≤ k → k < to → n < slots → sampleAt new n k ≡ f k n
   pub below : (k n : ℕ) → k < from → n < 32 → sampleAt new n k ≡ sampleAt old n k
-  pub above : (k n : ℕ) → to ≤ k → k < 91 → n < 32 → sampleAt new n k ≡ sampleAt old n k
-  pub behind : (k n : ℕ) → k < 91 → slots ≤ n → n < 32 → sampleAt new n k ≡ sampleAt old n k
+  pub above : (k n : ℕ) → to ≤ k → k < 50 → n < 32 → sampleAt new n k ≡ sampleAt old n k
+  pub behind : (k n : ℕ) → k < 50 → slots ≤ n → n < 32 → sampleAt new n k ≡ sampleAt old n k
 
 -- channels that are 0 as yet
 pub record Blank (slots from to : ℕ) (samples : List Float) : Type 0 where

@@ -9,38 +9,49 @@ ghost use Rattle.complex.specs.Operations.{sum};
 ghost use Rattle.decimals.specs.Prototypes.{prototypeOf};
 ghost use Rattle.planar.specs.Cells.{cell, planar, overwritten};
 ghost use Rattle.standard.specs.Hybrid.{tap};
-ghost use Rattle.ps_hybrid_analysis.specs.Stages.{rootsOf, convolved};
+ghost use Rattle.ps_hybrid_analysis.specs.Stages.{Waves, rootsOf, orderOf, convolved};
 ghost use Rattle.ps_hybrid_analysis.specs.Stages as stages;
 
+// The unit roots of a table as floats, made once for all filters of a band.
+pub fn waves(roots: &[i64], order: usize, out: &mut [f64])
+    requires { ⌜ (order ≤ 24) × (length (now out) ≡ 48) ⌝ }
+    ensures { λ _. ⌜ Waves (now (roots .entry)) order (now (out .exit)) ⌝ }
+{
+    for t in 0..order {
+        let root = fixed::pair(roots, 2 * t);
+        out[2 * t] = root.re;
+        out[2 * t + 1] = root.im;
+    }
+}
+
 // A tap g of a prototype, modulated for filter q.
-fn modulated(prototype: Prototype, roots: &[i64], g: f64, q: usize, m: usize) -> Complex
+fn modulated(prototype: Prototype, waves: &[f64], g: f64, q: usize, m: usize) -> Complex
     requires { ⌜ (q < 12) × (m < 13) ⌝ }
-    requires { ⌜ now roots ≡ rootsOf prototype ⌝ }
+    requires { ⌜ (length (now waves) ≡ 48) × Waves (rootsOf prototype) (orderOf prototype) (now waves) ⌝ }
     ensures { λ r. ⌜ r ≡ stages.modulated prototype g q m ⌝ }
 {
     let turn = plan::turn(prototype, q, m);
-    let root = fixed::pair(roots, 2 * turn);
     if plan::is_complex(prototype) {
         Complex {
-            re: g * root.re,
-            im: g * root.im,
+            re: g * waves[2 * turn],
+            im: g * waves[2 * turn + 1],
         }
     } else {
         Complex {
-            re: g * root.re,
+            re: g * waves[2 * turn],
             im: 0.0,
         }
     }
 }
 
 // The 13 taps of filter q.
-pub fn taps(prototype: Prototype, roots: &[i64], g: &[f64], q: usize, out: &mut [f64])
-    requires { ⌜ (now roots ≡ rootsOf prototype) × (now g ≡ prototypeOf prototype) ⌝ }
+pub fn taps(prototype: Prototype, waves: &[f64], g: &[f64], q: usize, out: &mut [f64])
+    requires { ⌜ ((length (now waves) ≡ 48) × Waves (rootsOf prototype) (orderOf prototype) (now waves)) × (now g ≡ prototypeOf prototype) ⌝ }
     requires { ⌜ (q < 12) × (length (now out) ≡ 26) ⌝ }
     ensures { λ _. ⌜ now (out .exit) ≡ planar 13 (tap prototype q) ⌝ }
 {
     for m in 0..13 {
-        let v = modulated(prototype, roots, g[m], q, m);
+        let v = modulated(prototype, waves, g[m], q, m);
         out[m] = v.re;
         out[m + 13] = v.im;
     }

@@ -1,4 +1,4 @@
-// Hybrid analysis of a frame (source document 002, §8.6.4.3): the lowest QMF bands split by filters of 13 taps, the others passed on.
+// Hybrid analysis of a frame (source document 002, §8.6.4.3): the lowest QMF bands split by filters of 13 taps, the others of all-pass channels passed on.
 mod band;
 mod filter;
 mod plan;
@@ -12,14 +12,14 @@ ghost use lib.ListN.{length};
 ghost use Rattle.borders.specs.Borders.{slotsOf};
 ghost use Rattle.complex.specs.Operations.{sum};
 ghost use Rattle.decimals.specs.Prototypes.{prototypeOf};
-ghost use Rattle.layout.specs.Numbers.{splitOf, unsplitFromOf, channelsOf};
+ghost use Rattle.layout.specs.Numbers.{splitOf, unsplitFromOf, allPassOf};
 ghost use Rattle.lists.specs.Part.{part};
 ghost use Rattle.planar.specs.Cells.{cell, planar, overwritten};
 ghost use Rattle.planar.specs.Frame.{sampleAt};
 ghost use Rattle.standard.specs.Numbers.{nought};
 ghost use Rattle.standard.specs.Hybrid.{prototypeFor, filtersOf, channelFor, spanOf, filtered, joinedTo, hybrid};
 ghost use Rattle.ps_hybrid_analysis.specs.Analysis.{slotAt, answerOf, historyAfter, samplesAfter};
-ghost use Rattle.ps_hybrid_analysis.specs.Stages.{rootsOf, bandAt, Written, Blank, Kept};
+ghost use Rattle.ps_hybrid_analysis.specs.Stages.{Waves, rootsOf, orderOf, bandAt, Written, Blank, Kept};
 
 // A channel's slots are 0, before its filters are added.
 fn silence_run(run: &mut [f64], slots: usize)
@@ -34,8 +34,8 @@ fn silence_run(run: &mut [f64], slots: usize)
 
 // The channels of a split band.
 fn silence(samples: &mut [f64], from: usize, to: usize, slots: usize)
-    requires { ⌜ (from ≤ to) × (to ≤ 91) ⌝ }
-    requires { ⌜ (length (now samples) ≡ 5824) × (slots ≤ 32) ⌝ }
+    requires { ⌜ (from ≤ to) × (to ≤ 50) ⌝ }
+    requires { ⌜ (length (now samples) ≡ 3200) × (slots ≤ 32) ⌝ }
     ensures { λ _. ⌜ Written slots from to (λ k n. nought) (now (samples .entry)) (now (samples .exit)) ⌝ }
 {
     for k in from..to {
@@ -49,7 +49,7 @@ fn apply(
     layout: Layout,
     p: usize,
     prototype: Prototype,
-    roots: &[i64],
+    waves: &[f64],
     g: &[f64],
     q: usize,
     band: &[f64],
@@ -57,14 +57,14 @@ fn apply(
     samples: &mut [f64],
 )
     requires { ⌜ (prototype ≡ prototypeFor layout p) × ((p < splitOf layout) × (q < filtersOf prototype)) ⌝ }
-    requires { ⌜ (now roots ≡ rootsOf prototype) × (now g ≡ prototypeOf prototype) ⌝ }
-    requires { ⌜ (length (now band) ≡ 88) × ((length (now samples) ≡ 5824) × (slots ≤ 32)) ⌝ }
+    requires { ⌜ ((length (now waves) ≡ 48) × Waves (rootsOf prototype) (orderOf prototype) (now waves)) × (now g ≡ prototypeOf prototype) ⌝ }
+    requires { ⌜ (length (now band) ≡ 88) × ((length (now samples) ≡ 3200) × (slots ≤ 32)) ⌝ }
     ensures { λ _. ⌜ Written slots (channelFor layout p q) (channelFor layout p q + 1)
         (λ k n. sum (sampleAt (now (samples .entry)) n k) (filtered prototype q (cell 44 (now (band .entry))) n))
         (now (samples .entry)) (now (samples .exit)) ⌝ }
 {
     let mut taps = [0.0; 26];
-    filter::taps(prototype, roots, g, q, &mut taps);
+    filter::taps(prototype, waves, g, q, &mut taps);
     let k = plan::channel(layout, p, q);
     let at = 64 * k;
     filter::join(&taps, band, slots, &mut samples[at..at + 64]);
@@ -75,22 +75,22 @@ fn apply_all(
     layout: Layout,
     p: usize,
     prototype: Prototype,
-    roots: &[i64],
+    waves: &[f64],
     g: &[f64],
     band: &[f64],
     slots: usize,
     samples: &mut [f64],
 )
     requires { ⌜ (prototype ≡ prototypeFor layout p) × (p < splitOf layout) ⌝ }
-    requires { ⌜ (now roots ≡ rootsOf prototype) × (now g ≡ prototypeOf prototype) ⌝ }
-    requires { ⌜ (length (now band) ≡ 88) × ((length (now samples) ≡ 5824) × (slots ≤ 32)) ⌝ }
+    requires { ⌜ ((length (now waves) ≡ 48) × Waves (rootsOf prototype) (orderOf prototype) (now waves)) × (now g ≡ prototypeOf prototype) ⌝ }
+    requires { ⌜ (length (now band) ≡ 88) × ((length (now samples) ≡ 3200) × (slots ≤ 32)) ⌝ }
     requires { ⌜ Blank slots (spanOf layout p) (spanOf layout (suc p)) (now samples) ⌝ }
     ensures { λ _. ⌜ Written slots (spanOf layout p) (spanOf layout (suc p))
         (λ k n. joinedTo layout p (cell 44 (now (band .entry))) n k (filtersOf prototype)) (now (samples .entry)) (now (samples .exit)) ⌝ }
 {
     let count = plan::filters_of(prototype);
     for q in 0..count {
-        apply(layout, p, prototype, roots, g, q, band, slots, samples);
+        apply(layout, p, prototype, waves, g, q, band, slots, samples);
     }
 }
 
@@ -104,24 +104,28 @@ fn modulate(
     samples: &mut [f64],
 )
     requires { ⌜ (prototype ≡ prototypeFor layout p) × (p < splitOf layout) ⌝ }
-    requires { ⌜ (length (now band) ≡ 88) × ((length (now samples) ≡ 5824) × (slots ≤ 32)) ⌝ }
+    requires { ⌜ (length (now band) ≡ 88) × ((length (now samples) ≡ 3200) × (slots ≤ 32)) ⌝ }
     requires { ⌜ Blank slots (spanOf layout p) (spanOf layout (suc p)) (now samples) ⌝ }
     ensures { λ _. ⌜ Written slots (spanOf layout p) (spanOf layout (suc p))
         (λ k n. joinedTo layout p (cell 44 (now (band .entry))) n k (filtersOf prototype)) (now (samples .entry)) (now (samples .exit)) ⌝ }
 {
     let g = prototype.taps();
+    let mut waves = [0.0; 48];
     match plan::order(prototype) {
         8 => {
             let roots = root_table::roots_8();
-            apply_all(layout, p, prototype, &roots, &g, band, slots, samples);
+            filter::waves(&roots, 8, &mut waves);
+            apply_all(layout, p, prototype, &waves, &g, band, slots, samples);
         }
         16 => {
             let roots = root_table::roots_16();
-            apply_all(layout, p, prototype, &roots, &g, band, slots, samples);
+            filter::waves(&roots, 16, &mut waves);
+            apply_all(layout, p, prototype, &waves, &g, band, slots, samples);
         }
         _ => {
             let roots = root_table::roots_24();
-            apply_all(layout, p, prototype, &roots, &g, band, slots, samples);
+            filter::waves(&roots, 24, &mut waves);
+            apply_all(layout, p, prototype, &waves, &g, band, slots, samples);
         }
     }
 }
@@ -129,7 +133,7 @@ fn modulate(
 // The hybrid channels of QMF band p, from its slots.
 fn filter_band(layout: Layout, p: usize, band: &[f64], slots: usize, samples: &mut [f64])
     requires { ⌜ p < splitOf layout ⌝ }
-    requires { ⌜ (length (now band) ≡ 88) × ((length (now samples) ≡ 5824) × (slots ≤ 32)) ⌝ }
+    requires { ⌜ (length (now band) ≡ 88) × ((length (now samples) ≡ 3200) × (slots ≤ 32)) ⌝ }
     ensures { λ _. ⌜ Written slots (spanOf layout p) (spanOf layout (suc p))
         (λ k n. joinedTo layout p (cell 44 (now (band .entry))) n k (filtersOf (prototypeFor layout p))) (now (samples .entry)) (now (samples .exit)) ⌝ }
 {
@@ -150,7 +154,7 @@ fn split_band(
     samples: &mut [f64],
 )
     requires { ⌜ (p < splitOf layout) × ((slots ≤ 32) × (length (now history) ≡ 12)) ⌝ }
-    requires { ⌜ (128 * (slots + 6) ≤ length (now input)) × (length (now samples) ≡ 5824) ⌝ }
+    requires { ⌜ (128 * (slots + 6) ≤ length (now input)) × (length (now samples) ≡ 3200) ⌝ }
     ensures history { λ _. ⌜ now (history .exit) ≡ planar 6 (λ j. bandAt (now (history .entry)) (now (input .entry)) p (slots + j)) ⌝ }
     ensures samples { λ _. ⌜ Written slots (spanOf layout p) (spanOf layout (suc p))
         (λ k n. joinedTo layout p (bandAt (now (history .entry)) (now (input .entry)) p) n k (filtersOf (prototypeFor layout p)))
@@ -171,7 +175,7 @@ fn split_bands(
     samples: &mut [f64],
 )
     requires { ⌜ (slots ≤ 32) × (length (now history) ≡ 60) ⌝ }
-    requires { ⌜ (128 * (slots + 6) ≤ length (now input)) × (length (now samples) ≡ 5824) ⌝ }
+    requires { ⌜ (128 * (slots + 6) ≤ length (now input)) × (length (now samples) ≡ 3200) ⌝ }
     ensures history { λ _. ⌜ Kept (splitOf layout) (λ p. planar 6 (λ j. bandAt (part (12 * p) 12 (now (history .entry))) (now (input .entry)) p (slots + j)))
         (now (history .entry)) (now (history .exit)) ⌝ }
     ensures samples { λ _. ⌜ Written slots 0 (unsplitFromOf layout)
@@ -199,8 +203,8 @@ fn column(input: &[f64], p: usize, slots: usize, run: &mut [f64])
 
 // The channels from `first` to `end`: QMF bands from `split` on, unchanged.
 fn columns(input: &[f64], split: usize, first: usize, end: usize, slots: usize, samples: &mut [f64])
-    requires { ⌜ (split ≤ 5) × ((first ≤ end) × ((end ≤ 91) × (end + split ≤ first + 64))) ⌝ }
-    requires { ⌜ (128 * slots ≤ length (now input)) × ((length (now samples) ≡ 5824) × (slots ≤ 32)) ⌝ }
+    requires { ⌜ (split ≤ 5) × ((first ≤ end) × ((end ≤ 50) × (end + split ≤ first + 64))) ⌝ }
+    requires { ⌜ (128 * slots ≤ length (now input)) × ((length (now samples) ≡ 3200) × (slots ≤ 32)) ⌝ }
     ensures { λ _. ⌜ Written slots first end (λ k n. cell 1 (now (input .entry)) (128 * n + 2 * (k + split - first))) (now (samples .entry)) (now (samples .exit)) ⌝ }
 {
     for k in first..end {
@@ -209,15 +213,15 @@ fn columns(input: &[f64], split: usize, first: usize, end: usize, slots: usize, 
     }
 }
 
-// The unsplit QMF bands.
+// The unsplit QMF bands of all-pass channels.
 fn pass_bands(layout: Layout, input: &[f64], slots: usize, samples: &mut [f64])
-    requires { ⌜ (128 * slots ≤ length (now input)) × ((length (now samples) ≡ 5824) × (slots ≤ 32)) ⌝ }
-    ensures { λ _. ⌜ Written slots (unsplitFromOf layout) (channelsOf layout)
+    requires { ⌜ (128 * slots ≤ length (now input)) × ((length (now samples) ≡ 3200) × (slots ≤ 32)) ⌝ }
+    ensures { λ _. ⌜ Written slots (unsplitFromOf layout) (allPassOf layout)
         (λ k n. cell 1 (now (input .entry)) (128 * n + 2 * (k + splitOf layout - unsplitFromOf layout))) (now (samples .entry)) (now (samples .exit)) ⌝ }
 {
     let split = layout.split();
     let first = layout.unsplit_from();
-    let end = layout.channels();
+    let end = layout.all_pass();
     columns(input, split, first, end, slots, samples);
 }
 
@@ -227,7 +231,7 @@ pub fn analyse(
     asked: usize,
     history: &mut [f64; 60],
     input: &[f64],
-    samples: &mut [f64; 5824],
+    samples: &mut [f64; 3200],
 ) -> Answer
     ensures answer { λ r. ⌜ r ≡ answerOf layout (now (history .entry)) (now (input .entry)) (slotsOf asked) ⌝ }
     ensures history { λ _. ⌜ now (history .exit) ≡ historyAfter layout (now (history .entry)) (now (input .entry)) (slotsOf asked) ⌝ }

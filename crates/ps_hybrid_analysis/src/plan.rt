@@ -126,7 +126,7 @@ fn channel_of_71(p: usize, q: usize) -> usize
 // The hybrid channel of filter q of QMF band p.
 pub fn channel(layout: Layout, p: usize, q: usize) -> usize
     requires { ⌜ (p < splitOf layout) × (q < 12) ⌝ }
-    ensures { λ r. ⌜ (r ≡ channelFor layout p q) × (r < 91) ⌝ }
+    ensures { λ r. ⌜ (r ≡ channelFor layout p q) × (r < 50) ⌝ }
 {
     match layout {
         Layout::Bands20 => channel_of_71(p, q),

@@ -10,20 +10,19 @@ use borrow.Author.Tests.{lt-ltb, eq-eqb, ne-eqb, ltb-true, ltb-false, eqb-true, 
 use lib.Dec.{ltb, eqb}
 use lib.Ieee.{Float, nan}
 use lib.ListN.{length, getD}
-use lib.Seq.{ext-getD}
 use Rattle.complex.specs.declared.Complex.{Complex}
 use Rattle.complex.specs.Operations.{sum}
 use Rattle.layout.specs.declared.Layout.{Layout}
 use Rattle.layout.specs.Numbers.{splitOf, unsplitFromOf, channelsOf}
-use Rattle.lists.proofs.Maps.{tabulate-length, tabulate-at}
+use Rattle.lists.proofs.Maps.{tabulate-at}
 use Rattle.planar.specs.Cells.{cell}
-use Rattle.planar.specs.Frame.{qmfAt, qmfRows}
+use Rattle.planar.specs.Frame.{qmfAt}
 use Rattle.planar.proofs.Cells.{by-parts}
 use Rattle.standard.specs.Numbers.{nought}
-use Rattle.standard.specs.Hybrid.{spanOf, addedTo, synthesised}
+use Rattle.standard.specs.Hybrid.{spanOf, addedTo}
 use Rattle.ps_hybrid_synthesis.specs.Column.{numberIn, written, passed, started, added, column, cellAfter, rowsAfter}
 use Rattle.ps_hybrid_synthesis.specs.Rising.{columnTo, Risen}
-use Rattle.ps_hybrid_synthesis.proofs.Spans.{Spanned, column-spanned, column-unsplit, column-few, split-within, unsplit-passed, column-untouched, column-complete, column-other}
+use Rattle.ps_hybrid_synthesis.proofs.Spans.{Spanned, column-spanned, column-unsplit, column-few, split-within, unsplit-passed, column-untouched, column-other}
 use Rattle.ps_hybrid_synthesis.proofs.Columns.{written-length}
 use Rattle.ps_hybrid_synthesis.proofs.Ways.{with-both}
 
@@ -149,27 +148,3 @@ risen-next l y slots k old new run r h few size comes =
         written-elsewhere (cellAfter l k run new) (column l k) new slots n q b u room elsewhere
         ∙ r .columns n q u b
         ∙ column-other l (y n) (qmfAt old n q) k q (λ (same : column l k ≡ q). elsewhere (sym same))
-
--- a list of rows is what its columns are
-rows-are : (z : ℕ → ℕ → Complex) (slots : ℕ) (new : List Float) → length new ≡ 128 * slots → ((n q : ℕ) → n < slots → q < 64 → qmfAt new n q ≡ z n q) → new ≡ qmfRows slots z
-rows-are z slots new size each =
-    ext-getD nan new (qmfRows slots z) (size ∙ sym (tabulate-length number (128 * slots)))
-    (λ i h. let u : i < 128 * slots = omega arith in at i u (eqb (i % 2) 0) refl ∙ sym (tabulate-at number (128 * slots) i nan u))
-  where
-    number : ℕ → Float
-    number i = cond (eqb (i % 2) 0) (z (i / 128) (i % 128 / 2) .re) (z (i / 128) (i % 128 / 2) .im)
-
-    at : (i : ℕ) → i < 128 * slots → (t : Bool) → eqb (i % 2) 0 ≡ t → getD new i nan ≡ number i
-    at i h true e =
-        let even : i % 2 ≡ 0 = eqb-true (i % 2) 0 e in
-        let place : i ≡ 128 * (i / 128) + 2 * (i % 128 / 2) = omega arith in
-        rw e (ap (λ (j : ℕ). getD new j nan) place ∙ ap (λ (v : Complex). v .re) (each (i / 128) (i % 128 / 2) (omega arith) (omega arith)))
-    at i h false e =
-        let not-even : i % 2 ≢ 0 = eqb-false (i % 2) 0 e in
-        let place : i ≡ 128 * (i / 128) + 2 * (i % 128 / 2) + 1 = omega arith in
-        rw e (ap (λ (j : ℕ). getD new j nan) place ∙ ap (λ (v : Complex). v .im) (each (i / 128) (i % 128 / 2) (omega arith) (omega arith)))
-
-pub risen-all : (l : Layout) (y : ℕ → ℕ → Complex) (slots : ℕ) (old new : List Float) → Risen l y slots (channelsOf l) old new → length old ≡ 128 * slots → new ≡ qmfRows slots (λ n q. synthesised l (y n) q)
-risen-all l y slots old new r size =
-    rows-are (λ n q. synthesised l (y n) q) slots new (r .long ∙ size)
-    (λ n q h u. r .columns n q h u ∙ column-complete l (y n) (qmfAt old n q) q u)

@@ -12,7 +12,7 @@ use Rattle.complex.specs.declared.Complex.{Complex}
 use Rattle.layout.specs.declared.Layout.{Layout}
 use Rattle.layout.specs.declared.Layout.the-variants.{Bands20, Bands34}
 use Rattle.layout.specs.Numbers.{splitOf, unsplitFromOf, channelsOf}
-use Rattle.standard.specs.Hybrid.{bandBelow, spanOf, addedTo, synthesised}
+use Rattle.standard.specs.Hybrid.{bandBelow, spanOf, addedTo}
 use Rattle.ps_hybrid_synthesis.specs.Column.{column}
 use Rattle.ps_hybrid_synthesis.specs.Rising.{columnTo}
 
@@ -165,18 +165,6 @@ column-untouched l y before q = go (ltb q (splitOf l)) refl
     go : (t : Bool) → ltb q (splitOf l) ≡ t → columnTo l y before 0 q ≡ before
     go true e = split-before l y before 0 q (ltb-true q (splitOf l) e) (omega arith)
     go false e = unsplit-before l y before 0 q (ltb-false q (splitOf l) e) (omega arith)
-
--- behind the last one
-pub column-complete : (l : Layout) (y : ℕ → Complex) (before : Complex) (q : ℕ) → q < 64 → columnTo l y before (channelsOf l) q ≡ synthesised l y q
-unfolding synthesised
-column-complete l y before q h = go (ltb q (splitOf l)) refl
-  where
-    go : (t : Bool) → ltb q (splitOf l) ≡ t → columnTo l y before (channelsOf l) q ≡ synthesised l y q
-    go true e =
-        let inside : q < splitOf l = ltb-true q (splitOf l) e in
-        let top : spanOf l (suc q) ≤ unsplitFromOf l = omega (arith, span-ordered l (suc q) (suc (splitOf l - 1)) (omega (arith, split-some l)), span-last l) in
-        rw e (split-behind l y before (channelsOf l) q inside (omega (arith, split-few l, last-channel l)))
-    go false e = rw e (unsplit-passed l y before (channelsOf l) q (ltb-false q (splitOf l) e) (omega (arith, last-channel l, ltb-false q (splitOf l) e)))
 
 -- a channel that is not the column's leaves it
 pub column-other : (l : Layout) (y : ℕ → Complex) (before : Complex) (k q : ℕ) → column l k ≢ q → columnTo l y before k q ≡ columnTo l y before (suc k) q

@@ -72,9 +72,9 @@ module _ (runs : List Float) (marked : Bool) (samples : List Float) (k : ℕ) (d
         (planar 32 (overwritten slots (taking (part 64 64 runs) (part 192 64 runs) (part (64 * k) 64 samples) decorrelated gains (32 * band) slots right marked) (cell 32 right)))
         right
 
-  pub mixed : k < 91 → band < 34 → length decorrelated ≡ 64 → length left ≡ 64 → length right ≡ 64
+  pub mixed : k < 50 → band < 34 → length decorrelated ≡ 64 → length left ≡ 64 → length right ≡ 64
       → (takenSide marked (part 0 64 runs) (part 128 64 runs) (part (64 * k) 64 samples) decorrelated (part (32 * band) 32 gains) slots left ≡ leftAfter runs marked samples k decorrelated gains band slots left right)
       × (takenSide marked (part 64 64 runs) (part 192 64 runs) (part (64 * k) 64 samples) decorrelated (part (32 * band) 32 gains) slots right ≡ rightAfter runs marked samples k decorrelated gains band slots left right)
   mixed a b d l r =
-      let found : there runs marked samples k decorrelated gains band left right ≡ true = rw (lt-ltb k 91 a, lt-ltb band 34 b, eq-eqb (length decorrelated) 64 d, eq-eqb (length left) 64 l, eq-eqb (length right) 64 r) in
+      let found : there runs marked samples k decorrelated gains band left right ≡ true = rw (lt-ltb k 50 a, lt-ltb band 34 b, eq-eqb (length decorrelated) 64 d, eq-eqb (length left) 64 l, eq-eqb (length right) 64 r) in
       (left-mixed found, right-mixed found)

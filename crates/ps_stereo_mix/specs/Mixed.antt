@@ -15,7 +15,7 @@ use Rattle.standard.specs.Mixing.{leftOf, rightOf}
 module _ (runs : List Float) (marked : Bool) (samples : List Float) (k : ℕ) (decorrelated gains : List Float) (band : ℕ) where
   -- the channel and the band are there, and the three runs have 32 complex numbers
   abbrev pub there : List Float → List Float → Bool
-  there left right = ltb k 91 && ltb band 34 && eqb (length decorrelated) 64 && eqb (length left) 64 && eqb (length right) 64
+  there left right = ltb k 50 && ltb band 34 && eqb (length decorrelated) 64 && eqb (length left) 64 && eqb (length right) 64
 
   -- d_k(n): the de-correlated sample, ducked
   abbrev pub ducked : ℕ → Complex

@@ -135,11 +135,11 @@ fn sides(
     );
 }
 
-// Channel k of 91, of a band of 34, over at most 32 slots, where the three runs have 32 complex numbers; a marked channel takes conjugate coefficients.
+// Channel k of 50, of a band of 34, over at most 32 slots, where the three runs have 32 complex numbers; a marked channel takes conjugate coefficients.
 pub fn mix(
     runs: &[f64; 256],
     marked: bool,
-    samples: &[f64; 5824],
+    samples: &[f64; 3200],
     k: usize,
     decorrelated: &[f64],
     gains: &[f64; 1088],
@@ -151,7 +151,7 @@ pub fn mix(
     ensures left { λ _. ⌜ now (left .exit) ≡ leftAfter (now (runs .entry)) marked (now (samples .entry)) k (now (decorrelated .entry)) (now (gains .entry)) band (min slots 32) (now (left .entry)) (now (right .entry)) ⌝ }
     ensures right { λ _. ⌜ now (right .exit) ≡ rightAfter (now (runs .entry)) marked (now (samples .entry)) k (now (decorrelated .entry)) (now (gains .entry)) band (min slots 32) (now (left .entry)) (now (right .entry)) ⌝ }
 {
-    if 91 <= k {
+    if 50 <= k {
         return;
     }
     if 34 <= band {

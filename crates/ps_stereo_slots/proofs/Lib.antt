@@ -2,3 +2,5 @@ pub mod Runs
 pub mod Covered
 pub mod Filled
 pub mod Borders
+pub mod Reading
+pub mod Interpolating

@@ -1,5 +1,4 @@
 // A stage's numbers against those of the stream, by their bits.
-use super::sound;
 use super::stream;
 use super::words;
 use layout::Layout;
@@ -47,10 +46,11 @@ fn first_difference(bytes: &[u8], numbers: &[f64], count: usize) -> usize
     i
 }
 
-fn slot_in(n: usize, numbers: &[f64], count: usize, bytes: &mut [u8]) -> Verdict
-    requires { ⌜ (count ≤ 182) × ((count ≤ length (now numbers)) × (length (now bytes) ≡ 1456)) ⌝ }
+// The first `count` numbers of a slot that has `all`.
+fn slot_in(n: usize, numbers: &[f64], count: usize, all: usize, bytes: &mut [u8]) -> Verdict
+    requires { ⌜ (count ≤ all) × ((all ≤ 182) × ((count ≤ length (now numbers)) × (length (now bytes) ≡ 1456))) ⌝ }
 {
-    if !stream::read_first(bytes, 8 * count) {
+    if !stream::read_first(bytes, 8 * all) {
         return Verdict::Cut;
     }
     let place = first_difference(bytes, numbers, count);
@@ -65,38 +65,38 @@ fn slot_in(n: usize, numbers: &[f64], count: usize, bytes: &mut [u8]) -> Verdict
     Verdict::Held
 }
 
-// The first numbers of a slot, in the stream's order.
-fn slot(n: usize, numbers: &[f64], count: usize) -> Verdict
-    requires { ⌜ (count ≤ 182) × (count ≤ length (now numbers)) ⌝ }
+// In the stream's order.
+fn slot(n: usize, numbers: &[f64], count: usize, all: usize) -> Verdict
+    requires { ⌜ (count ≤ all) × ((all ≤ 182) × (count ≤ length (now numbers))) ⌝ }
 {
     let mut bytes = [0u8; 1456];
-    slot_in(n, numbers, count, &mut bytes)
+    slot_in(n, numbers, count, all, &mut bytes)
 }
 
 // Channel by channel re and im, as the Rust has a slot.
-fn gather(hybrid: &[f64], n: usize, channels: usize, out: &mut [f64])
-    requires { ⌜ (length (now hybrid) ≡ 5824) × ((n < 32) × ((channels ≤ 91) × (length (now out) ≡ 182))) ⌝ }
+fn gather(hybrid: &[f64], n: usize, passes: usize, out: &mut [f64])
+    requires { ⌜ (length (now hybrid) ≡ 3200) × ((n < 32) × ((passes ≤ 50) × (length (now out) ≡ 100))) ⌝ }
 {
-    for k in 0..channels {
+    for k in 0..passes {
         out[2 * k] = hybrid[64 * k + n];
         out[2 * k + 1] = hybrid[64 * k + n + 32];
     }
 }
 
-fn hybrid_slot(hybrid: &[f64], n: usize, channels: usize) -> Verdict
-    requires { ⌜ (length (now hybrid) ≡ 5824) × ((n < 32) × (channels ≤ 91)) ⌝ }
+fn hybrid_slot(hybrid: &[f64], n: usize, passes: usize, channels: usize) -> Verdict
+    requires { ⌜ (length (now hybrid) ≡ 3200) × ((n < 32) × ((passes ≤ 50) × ((passes ≤ channels) × (channels ≤ 91)))) ⌝ }
 {
-    let mut numbers = [0.0; 182];
-    gather(hybrid, n, channels, &mut numbers);
-    slot(n, &numbers, 2 * channels)
+    let mut numbers = [0.0; 100];
+    gather(hybrid, n, passes, &mut numbers);
+    slot(n, &numbers, 2 * passes, 2 * channels)
 }
 
-// Hybrid samples, a run of 32 slots for each channel and part.
-fn hybrid_slots(hybrid: &[f64], channels: usize, slots: usize) -> Verdict
-    requires { ⌜ (length (now hybrid) ≡ 5824) × ((slots ≤ 32) × (channels ≤ 91)) ⌝ }
+// Hybrid samples of the all-pass channels, a run of 32 slots for each channel and part.
+fn hybrid_slots(hybrid: &[f64], passes: usize, channels: usize, slots: usize) -> Verdict
+    requires { ⌜ (length (now hybrid) ≡ 3200) × ((slots ≤ 32) × ((passes ≤ 50) × ((passes ≤ channels) × (channels ≤ 91)))) ⌝ }
 {
     for n in 0..slots {
-        let found = hybrid_slot(hybrid, n, channels);
+        let found = hybrid_slot(hybrid, n, passes, channels);
         let Verdict::Held = found else {
             return found;
         };
@@ -104,11 +104,13 @@ fn hybrid_slots(hybrid: &[f64], channels: usize, slots: usize) -> Verdict
     Verdict::Held
 }
 
-fn hybrid(numbers: &[f64; 5824], layout: Layout, slots: usize) -> Verdict
+fn hybrid(numbers: &[f64; 3200], layout: Layout, slots: usize) -> Verdict
     requires { ⌜ slots ≤ 32 ⌝ }
 {
-    let channels = sound::channels_of(layout);
-    hybrid_slots(numbers, channels, slots)
+    match layout {
+        Layout::Bands20 => hybrid_slots(numbers, 30, 71, slots),
+        Layout::Bands34 => hybrid_slots(numbers, 50, 91, slots),
+    }
 }
 
 // QMF rows of 64 bands.
@@ -117,7 +119,7 @@ fn row_slots(rows: &[f64], slots: usize) -> Verdict
 {
     for n in 0..slots {
         let at = 128 * n;
-        let found = slot(n, &rows[at..at + 128], 128);
+        let found = slot(n, &rows[at..at + 128], 128, 128);
         let Verdict::Held = found else {
             return found;
         };
@@ -131,21 +133,18 @@ fn rows(numbers: &[f64; 4096], slots: usize) -> Verdict
     row_slots(numbers, slots)
 }
 
-// Synthesis of left, then of right over the same rows.
-fn synthesised(layout: Layout, slots: usize, left: &[f64; 5824], right: &[f64; 5824]) -> Compared
+// Both sides after synthesis and the plain delays.
+fn synthesised(slots: usize, left: &[f64; 4096], right: &[f64; 4096]) -> Compared
     requires { ⌜ slots ≤ 32 ⌝ }
 {
-    let mut output = [0.0; 4096];
-    sound::synthesise(layout, left, slots, &mut output);
-    let one = rows(&output, slots);
+    let one = rows(left, slots);
     let Verdict::Held = one else {
         return Compared {
             held: 4,
             verdict: one,
         };
     };
-    sound::synthesise(layout, right, slots, &mut output);
-    let other = rows(&output, slots);
+    let other = rows(right, slots);
     let Verdict::Held = other else {
         return Compared {
             held: 5,
@@ -158,34 +157,43 @@ fn synthesised(layout: Layout, slots: usize, left: &[f64; 5824], right: &[f64; 5
     }
 }
 
-fn sides(layout: Layout, slots: usize, left: &[f64; 5824], right: &[f64; 5824]) -> Compared
+fn sides(
+    layout: Layout,
+    slots: usize,
+    lefts: &[f64; 3200],
+    rights: &[f64; 3200],
+    left: &[f64; 4096],
+    right: &[f64; 4096],
+) -> Compared
     requires { ⌜ slots ≤ 32 ⌝ }
 {
-    let one = hybrid(left, layout, slots);
+    let one = hybrid(lefts, layout, slots);
     let Verdict::Held = one else {
         return Compared {
             held: 2,
             verdict: one,
         };
     };
-    let other = hybrid(right, layout, slots);
+    let other = hybrid(rights, layout, slots);
     let Verdict::Held = other else {
         return Compared {
             held: 3,
             verdict: other,
         };
     };
-    synthesised(layout, slots, left, right)
+    synthesised(slots, left, right)
 }
 
 // The stages in the stream's order.
 pub fn stages(
     layout: Layout,
     slots: usize,
-    samples: &[f64; 5824],
-    decorrelated: &[f64; 5824],
-    left: &[f64; 5824],
-    right: &[f64; 5824],
+    samples: &[f64; 3200],
+    decorrelated: &[f64; 3200],
+    lefts: &[f64; 3200],
+    rights: &[f64; 3200],
+    left: &[f64; 4096],
+    right: &[f64; 4096],
 ) -> Compared
     requires { ⌜ slots ≤ 32 ⌝ }
 {
@@ -203,5 +211,5 @@ pub fn stages(
             verdict: other,
         };
     };
-    sides(layout, slots, left, right)
+    sides(layout, slots, lefts, rights, left, right)
 }

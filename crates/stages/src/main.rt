@@ -1,8 +1,10 @@
 // Holds each stage of the sound to the Rust's numbers, bit for bit. The input is what `oracle stage-runs` writes: for each accepted frame a head of 48
-// bytes, the cue line, the samples, and the Rust's numbers after analysis, de-correlation, mixing and synthesis. It says how many frames of each layout
+// bytes, the cue line, the samples, and the Rust's numbers after analysis, de-correlation, mixing and synthesis. The first three are compared of the
+// all-pass channels, since the channels above those have no such stages here; left and right are compared whole. It says how many frames of each layout
 // hold at each stage, and where the first difference is.
 mod compare;
 mod frame;
+mod play;
 mod ready;
 mod say;
 mod sound;
@@ -85,7 +87,7 @@ fn say_verdict(head: Head, checked: Verdict, held: usize) {
     }
 }
 
-fn play(before: Replay, head: Head) -> Replay {
+fn play_on(before: Replay, head: Head) -> Replay {
     let mut replay = started(before, head);
     let decoder = replay.decoder;
     let checked = frame::check(decoder, head);
@@ -108,7 +110,7 @@ fn play(before: Replay, head: Head) -> Replay {
 fn next(before: Replay) -> Replay {
     let head = stream::next_head();
     if head.kind == 1 {
-        return play(before, head);
+        return play_on(before, head);
     }
     let mut after = before;
     after.going = false;

@@ -1,14 +1,15 @@
-// The stages of a frame, each over all channels, so that every stage's numbers stand whole before the next.
+// The stages of a frame, each over all of its all-pass channels, so that every stage's numbers stand whole before the next. The channels above those are
+// QMF bands, which go straight from the input to both sides.
 use layout::Layout;
 ghost use mathlib.Core.Path.{_≡_};
 ghost use Prim.Native.Nat.{_+_, _*_, _≤_, _<_};
 ghost use lib.ListN.{length};
 
-// Hybrid channels.
-pub fn channels_of(layout: Layout) -> usize
-    ensures { λ r. ⌜ r ≤ 91 ⌝ }
+// All-pass channels.
+pub fn passes_of(layout: Layout) -> usize
+    ensures { λ r. ⌜ r ≤ 50 ⌝ }
 {
-    layout.channels()
+    layout.all_pass()
 }
 
 // The stereo band of a channel.
@@ -39,55 +40,57 @@ fn taken(hybrid: &[f64], at: usize) -> [f64; 64]
     run
 }
 
+// One channel.
+fn one(
+    table: &[i64],
+    layout: Layout,
+    k: usize,
+    delays: &mut [f64; 1400],
+    samples: &[f64; 3200],
+    slots: usize,
+    out: &mut [f64],
+)
+    requires { ⌜ (k < 50) × (length (now out) ≡ 3200) ⌝ }
+{
+    let mut run = [0.0; 64];
+    let chain = ps_decorr_allpass::chain(layout, k, table);
+    ps_decorr_allpass::all_pass(chain, delays, samples, k, slots, &mut run);
+    let at = 64 * k;
+    put(&run, &mut out[at..at + 64]);
+}
+
 // De-correlation before ducking, with the layout's rotations.
 fn decorrelate_with(
     table: &[i64],
     layout: Layout,
     delays: &mut [f64; 1400],
-    long: &mut [f64; 336],
-    short: &mut [f64; 58],
-    samples: &[f64; 5824],
+    samples: &[f64; 3200],
     slots: usize,
     out: &mut [f64],
 )
-    requires { ⌜ length (now out) ≡ 5824 ⌝ }
+    requires { ⌜ length (now out) ≡ 3200 ⌝ }
 {
-    let channels = channels_of(layout);
-    for k in 0..channels {
-        let mut run = [0.0; 64];
-        ps_decorr_channel::decorrelate(
-            layout,
-            k,
-            table,
-            delays,
-            long,
-            short,
-            samples,
-            slots,
-            &mut run,
-        );
-        let at = 64 * k;
-        put(&run, &mut out[at..at + 64]);
+    let passes = passes_of(layout);
+    for k in 0..passes {
+        one(table, layout, k, delays, samples, slots, out);
     }
 }
 
 pub fn decorrelate(
     layout: Layout,
     delays: &mut [f64; 1400],
-    long: &mut [f64; 336],
-    short: &mut [f64; 58],
-    samples: &[f64; 5824],
+    samples: &[f64; 3200],
     slots: usize,
-    out: &mut [f64; 5824],
+    out: &mut [f64; 3200],
 ) {
     match layout {
         Layout::Bands20 => {
             let table = rotation_table::rotations_20();
-            decorrelate_with(&table, layout, delays, long, short, samples, slots, out);
+            decorrelate_with(&table, layout, delays, samples, slots, out);
         }
         Layout::Bands34 => {
             let table = rotation_table::rotations_34();
-            decorrelate_with(&table, layout, delays, long, short, samples, slots, out);
+            decorrelate_with(&table, layout, delays, samples, slots, out);
         }
     }
 }
@@ -97,7 +100,7 @@ fn mix_channel(
     layout: Layout,
     k: usize,
     runs: &[f64; 256],
-    samples: &[f64; 5824],
+    samples: &[f64; 3200],
     decorrelated: &[f64],
     gains: &[f64; 1088],
     band: usize,
@@ -134,17 +137,17 @@ fn mix_all(
     count: usize,
     rows: &[f64; 1360],
     fractions: &[f64; 128],
-    samples: &[f64; 5824],
+    samples: &[f64; 3200],
     decorrelated: &[f64],
     gains: &[f64; 1088],
     slots: usize,
     left: &mut [f64],
     right: &mut [f64],
 )
-    requires { ⌜ (length (now decorrelated) ≡ 5824) × ((length (now left) ≡ 5824) × (length (now right) ≡ 5824)) ⌝ }
+    requires { ⌜ (length (now decorrelated) ≡ 3200) × ((length (now left) ≡ 3200) × (length (now right) ≡ 3200)) ⌝ }
 {
-    let channels = channels_of(layout);
-    for k in 0..channels {
+    let passes = passes_of(layout);
+    for k in 0..passes {
         let band = band_of(layout, k);
         let mut runs = [0.0; 256];
         ps_stereo_slots::interpolate(rows, fractions, borders, count, band, slots, &mut runs);
@@ -169,12 +172,12 @@ pub fn mix(
     borders: [u8; 4],
     count: usize,
     rows: &[f64; 1360],
-    samples: &[f64; 5824],
-    decorrelated: &[f64; 5824],
+    samples: &[f64; 3200],
+    decorrelated: &[f64; 3200],
     gains: &[f64; 1088],
     slots: usize,
-    left: &mut [f64; 5824],
-    right: &mut [f64; 5824],
+    left: &mut [f64; 3200],
+    right: &mut [f64; 3200],
 ) {
     let mut fractions = [0.0; 128];
     ps_stereo_slots::fractions(borders, count, &mut fractions);
@@ -205,10 +208,10 @@ fn duck_run(gains: &[f64], slots: usize, run: &mut [f64])
 }
 
 fn duck_all(layout: Layout, gains: &[f64], slots: usize, decorrelated: &mut [f64])
-    requires { ⌜ (length (now gains) ≡ 1088) × ((slots ≤ 32) × (length (now decorrelated) ≡ 5824)) ⌝ }
+    requires { ⌜ (length (now gains) ≡ 1088) × ((slots ≤ 32) × (length (now decorrelated) ≡ 3200)) ⌝ }
 {
-    let channels = channels_of(layout);
-    for k in 0..channels {
+    let passes = passes_of(layout);
+    for k in 0..passes {
         let from = 32 * band_of(layout, k);
         let at = 64 * k;
         duck_run(
@@ -220,23 +223,23 @@ fn duck_all(layout: Layout, gains: &[f64], slots: usize, decorrelated: &mut [f64
 }
 
 // What the Rust has of de-correlation: the numbers after ducking.
-pub fn duck(layout: Layout, gains: &[f64; 1088], slots: usize, decorrelated: &mut [f64; 5824])
+pub fn duck(layout: Layout, gains: &[f64; 1088], slots: usize, decorrelated: &mut [f64; 3200])
     requires { ⌜ slots ≤ 32 ⌝ }
 {
     duck_all(layout, gains, slots, decorrelated);
 }
 
-// One side's channels into its QMF rows.
+// One side's all-pass channels into its QMF rows.
 fn synthesise_all(layout: Layout, hybrid: &[f64], slots: usize, rows: &mut [f64])
-    requires { ⌜ length (now hybrid) ≡ 5824 ⌝ }
+    requires { ⌜ length (now hybrid) ≡ 3200 ⌝ }
 {
-    let channels = channels_of(layout);
-    for k in 0..channels {
+    let passes = passes_of(layout);
+    for k in 0..passes {
         let run = taken(hybrid, 64 * k);
         ps_hybrid_synthesis::synthesise(layout, k, &run, slots, rows);
     }
 }
 
-pub fn synthesise(layout: Layout, hybrid: &[f64; 5824], slots: usize, rows: &mut [f64; 4096]) {
+pub fn synthesise(layout: Layout, hybrid: &[f64; 3200], slots: usize, rows: &mut [f64]) {
     synthesise_all(layout, hybrid, slots, rows);
 }

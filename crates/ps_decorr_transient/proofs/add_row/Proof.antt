@@ -4,13 +4,13 @@ use Prim.Native.Nat.{_≤_, _-_}
 use borrow.Author.Needs.{needs}
 use native.Mathlib.Omega.{arith}
 use Rattle.standard.specs.Numbers.{_⊕_}
-use Rattle.ps_decorr_transient.specs.Rows.{Row, added}
+use Rattle.ps_decorr_transient.specs.Rows.{Row, added, inRow}
 use Rattle.ps_decorr_transient.proofs.Rows.{row-none, row-more, row-next}
 use Rattle.ps_decorr_transient.proofs.add_row.Statement.{statement}
 use Rattle.ps_decorr_transient.proofs.add_row.Tie as tie
 
 abbrev Inv-loop : tie.InvT-loop
-Inv-loop gains₀ at samples from slots n₀ gains n = (n ≤ slots) × Row (added gains₀ at samples from) at n gains₀ gains
+Inv-loop gains₀ at samples from slots n₀ gains n = (n ≤ slots) × Row (added gains₀ at (inRow samples from)) at n gains₀ gains
 
 abbrev μ-loop : tie.MeasureT-loop
 μ-loop gains₀ at samples from slots n₀ gains n = slots - n

@@ -5,24 +5,24 @@ use borrow.Author.Needs.{needs}
 use native.Mathlib.Omega.{arith}
 use Rattle.standard.specs.Numbers as numbers
 use Rattle.ps_decorr_transient.specs.Rows.{Rowed}
-use Rattle.ps_decorr_transient.proofs.Rows.{rowed-none, rowed-more}
+use Rattle.ps_decorr_transient.proofs.Rows.{rowed-none, rowed-and, rowed-row}
 use Rattle.ps_decorr_transient.proofs.clear.Statement.{statement}
 use Rattle.ps_decorr_transient.proofs.clear.Tie as tie
 
 abbrev Inv-loop : tie.InvT-loop
-Inv-loop gains₀ bands slots b₀ gains b = (b ≤ bands) × Rowed b slots (λ i n. numbers.zero) gains₀ gains
+Inv-loop gains₀ bands slots b₀ gains b = (b ≤ bands) × Rowed 0 b slots (λ i n. numbers.zero) gains₀ gains
 
 abbrev μ-loop : tie.MeasureT-loop
 μ-loop gains₀ bands slots b₀ gains b = bands - b
 
 loop-holds : tie.Need-loop-holds Inv-loop μ-loop
-loop-holds c = (omega arith, rowed-none _ _ _)
+loop-holds c = (omega arith, rowed-none _ _ _ _)
 
 loop-again : tie.Need-loop-again Inv-loop μ-loop
 loop-again c =
     let row = c .before .before in
     let l = row .before .before .before in
-    (omega arith, rowed-more (l .loop .inv .1) (omega arith) (row .clear-row .ensures) (λ n u. refl))
+    (omega arith, rowed-and (l .loop .inv .1) (rowed-row (row .clear-row .ensures) _ (λ n u. refl) (omega arith)) (omega arith) (omega arith) (omega arith) (omega arith))
 
 returns : tie.Need-returns Inv-loop μ-loop
 returns c =

@@ -21,7 +21,7 @@ enough c =
     let s = e .before in
     let a = s .before .before .args in
     let kept : length (a .history .now) ≡ 60 = search needs in
-    let long : length (a .samples .now) ≡ 5824 = search needs in
+    let long : length (a .samples .now) ≡ 3200 = search needs in
     rw (← s .slots .ensures)
     (done (a .layout) (a .history .now) (a .input .now) (a .samples .now) (s .slots .result) (e .if1 .left) (b .split-bands .ensures .0) (b .split-bands .ensures .1)
     (c .pass-bands .ensures) (omega (arith, s .slots .ensures)) kept long)

@@ -16,12 +16,12 @@ use Rattle.ps_hybrid_analysis.proofs.apply.Tie as tie
 
 taps-requires : tie.Need-taps-requires
 taps-requires c κs =
-    let s = c .before .before .before .before in
+    let s = c .before .before .before .before .before in
     (s .pre .1 .0, (omega (arith, filters-most (s .args .prototype)), search needs))
 
 channel-requires : tie.Need-channel-requires
 channel-requires c κs =
-    let s = c .before .before .before .before .before .before in
+    let s = c .before .before .before .before .before .before .before in
     (s .pre .0 .1 .0, omega (arith, filters-most (s .args .prototype)))
 
 part-end : tie.Need-part-join-end
@@ -30,7 +30,7 @@ part-end c = omega (arith, c .before .channel .ensures .1)
 join-requires : tie.Need-join-requires
 join-requires c κs =
     let h = c .before .before in
-    let s = h .before .before .before .before .before .before .before in
+    let s = h .before .before .before .before .before .before .before .before in
     let k = h .channel .result in (
       (ap length (h .before .before .taps2 .ensures) ∙ planar-length 13 (tap (s .args .prototype) (s .args .q)), s .pre .1 .1 .0),
       (lent-long k (64 * k + 64 - 64 * k) (s .args .samples .now) (width _ _) (s .pre .1 .1 .1 .0) (h .channel .ensures .1), s .pre .1 .1 .1 .1),
@@ -40,7 +40,7 @@ returns : tie.Need-returns
 returns c =
     let j = c .before .before in
     let h = j .before .before .before in
-    let s = h .before .before .before .before .before .before .before in
+    let s = h .before .before .before .before .before .before .before .before in
     let a = s .args in
     let k = h .channel .result in
     let taps = h .before .before .taps2 .last .1 .1 .1 .1 .0 in

@@ -19,21 +19,21 @@ record Inv (l : Layout) (p : ℕ) (band : List Float) (slots count : ℕ) (old n
   pub written : Written slots (spanOf l p) (spanOf l (suc p)) (λ k n. joinedTo l p (cell 44 band) n k q) old new
 
 abbrev Inv-loop : tie.InvT-loop
-Inv-loop layout p prototype roots g band slots samples₀ count q₀ samples q = Inv layout p band slots count samples₀ samples q
+Inv-loop layout p prototype waves g band slots samples₀ count q₀ samples q = Inv layout p band slots count samples₀ samples q
 
 abbrev μ-loop : tie.MeasureT-loop
-μ-loop layout p prototype roots g band slots samples₀ count q₀ samples q = count - q
+μ-loop layout p prototype waves g band slots samples₀ count q₀ samples q = count - q
 
 loop-holds : tie.Need-loop-holds Inv-loop μ-loop
 loop-holds c =
-    let s = c .before .before .before .before in
+    let s = c .before .before .before .before .before in
     record { within = omega arith; written = joined-none (s .args .layout) (s .args .p) (cell 44 (s .args .band .now)) (s .pre .1 .1 .1) }
 
 apply-requires : tie.Need-apply-requires Inv-loop μ-loop
 apply-requires c κs =
     let l = c .before .before in
     let f = l .before in
-    let s = f .before .before .before .before in (
+    let s = f .before .before .before .before .before in (
       (s .pre .0 .0, (s .pre .0 .1, omega (arith, f .filters-of .ensures))),
       (s .pre .1 .0, (s .pre .1 .1 .0 .0, (l .loop .inv .written .long ∙ s .pre .1 .1 .0 .1 .0, s .pre .1 .1 .0 .1 .1))),
     )
@@ -43,7 +43,7 @@ loop-again c =
     let r = c .before .before in
     let l = r .before .before .before in
     let f = l .before in
-    let s = f .before .before .before .before in
+    let s = f .before .before .before .before .before in
     let a = s .args in
     let q = l .loop .q in
     let less : q < filtersOf (a .prototype) = omega (arith, f .filters-of .ensures) in
@@ -59,7 +59,7 @@ returns : tie.Need-returns Inv-loop μ-loop
 returns c =
     let l = c .before in
     let f = l .before in
-    let all : l .loop .q ≡ filtersOf (f .before .before .before .before .args .prototype) = omega (arith, f .filters-of .ensures) in
+    let all : l .loop .q ≡ filtersOf (f .before .before .before .before .before .args .prototype) = omega (arith, f .filters-of .ensures) in
     rw all at (l .loop .inv .written)
 
 pub apply-all-spec : {M : Type 1} → statement M

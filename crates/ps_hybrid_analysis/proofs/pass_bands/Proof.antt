@@ -9,14 +9,14 @@ columns-requires c κs =
     let n = c .before in
     let u = n .before in
     let s = u .before .before .before .before in
-    (rw (n .channels .ensures, u .unsplit-from .ensures, u .before .split .ensures) (unsplit-fits (s .args .layout)), s .pre)
+    (rw (n .all-pass .ensures, u .unsplit-from .ensures, u .before .split .ensures) (unsplit-fits (s .args .layout)), s .pre)
 
 returns : tie.Need-returns
 returns c =
     let r = c .before .before in
     let n = r .before .before in
     let u = n .before in
-    rw (n .channels .ensures, u .unsplit-from .ensures, u .before .split .ensures) at (r .columns .ensures)
+    rw (n .all-pass .ensures, u .unsplit-from .ensures, u .before .split .ensures) at (r .columns .ensures)
 
 pub pass-bands-spec : {M : Type 1} → statement M
 pass-bands-spec = tie.close (tie.spec (λ c κs. search needs) (λ c κs. search needs) (λ c κs. search needs) columns-requires (λ c. search needs) returns)

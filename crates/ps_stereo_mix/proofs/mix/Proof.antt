@@ -7,25 +7,25 @@ use Rattle.ps_stereo_mix.proofs.mix.Statement.{statement}
 use Rattle.ps_stereo_mix.proofs.mix.Tie as tie
 
 no-channel : tie.Need-returns
-no-channel c = unmixed _ _ _ _ _ _ _ _ _ _ (rw (le-ltb _ 91 (c .if1 .taken)))
+no-channel c = unmixed _ _ _ _ _ _ _ _ _ _ (rw (le-ltb _ 50 (c .if1 .taken)))
 
 no-band : tie.Need-returns-2
-no-band c = unmixed _ _ _ _ _ _ _ _ _ _ (rw (lt-ltb _ 91 (c .before .if1 .left), le-ltb _ 34 (c .if2 .taken)))
+no-band c = unmixed _ _ _ _ _ _ _ _ _ _ (rw (lt-ltb _ 50 (c .before .if1 .left), le-ltb _ 34 (c .if2 .taken)))
 
 no-run : tie.Need-returns-3
 no-run c =
     unmixed _ _ _ _ _ _ _ _ _ _
-    (rw (lt-ltb _ 91 (c .before .before .if1 .left), lt-ltb _ 34 (c .before .if2 .left), ne-eqb _ 64 (c .if3 .taken)))
+    (rw (lt-ltb _ 50 (c .before .before .if1 .left), lt-ltb _ 34 (c .before .if2 .left), ne-eqb _ 64 (c .if3 .taken)))
 
 no-left : tie.Need-returns-4
 no-left c =
     unmixed _ _ _ _ _ _ _ _ _ _
-    (rw (lt-ltb _ 91 (c .before .before .before .if1 .left), lt-ltb _ 34 (c .before .before .if2 .left), eq-eqb _ 64 (c .before .if3 .left), ne-eqb _ 64 (c .if4 .taken)))
+    (rw (lt-ltb _ 50 (c .before .before .before .if1 .left), lt-ltb _ 34 (c .before .before .if2 .left), eq-eqb _ 64 (c .before .if3 .left), ne-eqb _ 64 (c .if4 .taken)))
 
 no-right : tie.Need-returns-5
 no-right c =
     unmixed _ _ _ _ _ _ _ _ _ _
-    (rw (lt-ltb _ 91 (c .before .before .before .before .if1 .left), lt-ltb _ 34 (c .before .before .before .if2 .left), eq-eqb _ 64 (c .before .before .if3 .left), eq-eqb _ 64 (c .before .if4 .left), ne-eqb _ 64 (c .if5 .taken)))
+    (rw (lt-ltb _ 50 (c .before .before .before .before .if1 .left), lt-ltb _ 34 (c .before .before .before .if2 .left), eq-eqb _ 64 (c .before .before .if3 .left), eq-eqb _ 64 (c .before .if4 .left), ne-eqb _ 64 (c .if5 .taken)))
 
 returns : tie.Need-returns-6
 returns c =

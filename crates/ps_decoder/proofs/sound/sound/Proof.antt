@@ -2,7 +2,7 @@
 use borrow.Author.Needs.{needs}
 use Rattle.ps_state.specs.declared.PsDecoder.{PsDecoder}
 use Rattle.ps_state.specs.State.{decoderOf}
-use Rattle.ps_decoder.proofs.Assembled.{Given, left-is, right-is, state-is}
+use Rattle.ps_decoder.proofs.Assembled.{Given, left-by, right-by, state-is}
 use Rattle.ps_decoder.proofs.sound.sound.Statement.{statement}
 use Rattle.ps_decoder.proofs.sound.sound.Tie as tie
 
@@ -12,8 +12,9 @@ before s = decoderOf (s .args .carried) (s .args .history .now) (s .args .delays
 
 returns : tie.Need-returns
 returns c =
-    let mixed = c .before .before .before .before in
-    let placed = mixed .before .before .before .before .before .before .before .before .before in
+    let delayed = c .before .before .before .before in
+    let mixed = delayed .before .before .before .before .before .before .before .before .before .before .before in
+    let placed = mixed .before .before .before .before .before .before .before in
     let bordered = placed .before in
     let moded = bordered .before .before in
     let ducked = moded .before .before .before in
@@ -29,13 +30,15 @@ returns c =
       gains-are = ducked .duck .ensures .1;
       rows-are = rw modes-are at (bordered .coefficients .ensures .1);
       places-are = placed .borders .ensures;
-    } in (
-      state-is (before start) (a .header) (a .indices) (a .positions) (a .input .now) (a .left .now) (a .right .now) given (a .kept) _ _ _ _ _ _
+    } in
+    let low = mixed .allpass-channels .ensures in
+    let high = delayed .delay-channels .ensures in (
+      state-is (before start) (a .header) (a .indices) (a .positions) (a .input .now) (a .left .now) (a .right .now) given _ _ (low .0) (low .1 .0) (a .kept) _ _ _ _ _ _
           (analysed .analyse .ensures .1 .0) (ducked .duck .ensures .0) (rw modes-are at (bordered .coefficients .ensures .0))
-          (mixed .channels .ensures .1 .1 .0) (mixed .channels .ensures .1 .1 .1 .0) (mixed .channels .ensures .1 .1 .1 .1),
+          (low .1 .1) (high .1 .1 .0) (high .1 .1 .1),
       (
-        rw (← left-is (before start) (a .header) (a .indices) (a .positions) (a .input .now) (a .left .now) (a .right .now) given) (mixed .channels .ensures .0),
-        rw (← right-is (before start) (a .header) (a .indices) (a .positions) (a .input .now) (a .left .now) (a .right .now) given) (mixed .channels .ensures .1 .0),
+        left-by (before start) (a .header) (a .indices) (a .positions) (a .input .now) (a .left .now) (a .right .now) given _ _ (low .0) (low .1 .0) _ (high .0),
+        right-by (before start) (a .header) (a .indices) (a .positions) (a .input .now) (a .left .now) (a .right .now) given _ _ (low .0) (low .1 .0) _ (high .1 .0),
       ),
     )
 
@@ -44,4 +47,4 @@ sound-spec =
     tie.close
     (tie.spec
     (λ c. search needs) (λ c κs. search needs) (λ c κs. search needs) (λ c κs. search needs) (λ c κs. search needs) (λ c κs. search needs) (λ c κs. search needs) (λ c κs. search needs)
-    (λ c. search needs) (λ c. search needs) returns)
+    (λ c κs. search needs) (λ c. search needs) (λ c. search needs) returns)

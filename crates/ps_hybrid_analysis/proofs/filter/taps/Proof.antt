@@ -20,27 +20,27 @@ record Inv (tap : ℕ → Complex) (out₀ out : List Float) (m : ℕ) : Type 0 
   pub filled : Filled 13 m tap out₀ out
 
 abbrev Inv-loop : tie.InvT-loop
-Inv-loop prototype roots g q out₀ m₀ out m = Inv (tap prototype q) out₀ out m
+Inv-loop prototype waves g q out₀ m₀ out m = Inv (tap prototype q) out₀ out m
 
 abbrev μ-loop : tie.MeasureT-loop
-μ-loop prototype roots g q out₀ m₀ out m = 13 - m
+μ-loop prototype waves g q out₀ m₀ out m = 13 - m
 
 loop-holds : tie.Need-loop-holds Inv-loop μ-loop
 loop-holds c = record { within = omega arith; filled = filled-none _ _ _ }
 
 slice-read : tie.Need-shared-slice-read-modulated Inv-loop μ-loop
-slice-read c = let s = c .before .before .before .before .before in omega (arith, ap length (s .pre .0 .1), prototype-length (s .args .prototype))
+slice-read c = let s = c .before .before .before .before .before .before in omega (arith, ap length (s .pre .0 .1), prototype-length (s .args .prototype))
 
 slice-write : tie.Need-slice-write-out Inv-loop μ-loop
-slice-write c = let l = c .before .before .before in omega (arith, l .loop .inv .filled .long, l .before .before .before .pre .1 .1)
+slice-write c = let l = c .before .before .before in omega (arith, l .loop .inv .filled .long, l .before .before .before .before .pre .1 .1)
 
 slice-write-2 : tie.Need-slice-write-out-2 Inv-loop μ-loop
-slice-write-2 c = let l = c .before .before .before in simp length-set (omega (arith, l .loop .inv .filled .long, l .before .before .before .pre .1 .1))
+slice-write-2 c = let l = c .before .before .before in simp length-set (omega (arith, l .loop .inv .filled .long, l .before .before .before .before .pre .1 .1))
 
 loop-again : tie.Need-loop-again Inv-loop μ-loop
 loop-again c =
     let l = c .before .before .before in
-    let s = l .before .before .before in
+    let s = l .before .before .before .before in
     let m = l .loop .m in
     let read : getD (s .args .g .now) m nan ≡ getD (prototypeOf (s .args .prototype)) m nan = ap (λ (g : List Float). getD g m nan) (s .pre .0 .1) in
     record {
@@ -55,7 +55,7 @@ same-length : tie.Need-same-length Inv-loop μ-loop
 same-length c = c .before .loop .inv .filled .long
 
 returns : tie.Need-returns Inv-loop μ-loop
-returns c = let l = c .before in filled-all (l .loop .inv .filled) (omega arith) (l .before .before .before .pre .1 .1)
+returns c = let l = c .before in filled-all (l .loop .inv .filled) (omega arith) (l .before .before .before .before .pre .1 .1)
 
 pub taps-spec : {M : Type 1} → statement M
 taps-spec =

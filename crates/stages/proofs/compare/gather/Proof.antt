@@ -9,10 +9,10 @@ use Rattle.stages.proofs.compare.gather.Statement.{statement}
 use Rattle.stages.proofs.compare.gather.Tie as tie
 
 abbrev Inv-loop : tie.InvT-loop
-Inv-loop hybrid n channels out₀ k₀ out k = (k ≤ channels) × (length out ≡ 182)
+Inv-loop hybrid n passes out₀ k₀ out k = (k ≤ passes) × (length out ≡ 100)
 
 abbrev μ-loop : tie.MeasureT-loop
-μ-loop hybrid n channels out₀ k₀ out k = channels - k
+μ-loop hybrid n passes out₀ k₀ out k = passes - k
 
 slice-write-out-2 : tie.Need-slice-write-out-2 Inv-loop μ-loop
 slice-write-out-2 c = simp length-set (omega arith)

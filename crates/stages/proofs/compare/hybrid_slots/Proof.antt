@@ -5,10 +5,10 @@ use Rattle.stages.proofs.compare.hybrid_slots.Statement.{statement}
 use Rattle.stages.proofs.compare.hybrid_slots.Tie as tie
 
 abbrev Inv-loop : tie.InvT-loop
-Inv-loop hybrid channels slots n₀ n = n ≤ slots
+Inv-loop hybrid passes channels slots n₀ n = n ≤ slots
 
 abbrev μ-loop : tie.MeasureT-loop
-μ-loop hybrid channels slots n₀ n = slots - n
+μ-loop hybrid passes channels slots n₀ n = slots - n
 
 pub hybrid-slots-spec : {M : Type 1} → statement M
 hybrid-slots-spec =

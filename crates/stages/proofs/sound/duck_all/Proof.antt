@@ -7,10 +7,10 @@ use Rattle.stages.proofs.sound.duck_all.Statement.{statement}
 use Rattle.stages.proofs.sound.duck_all.Tie as tie
 
 abbrev Inv-loop : tie.InvT-loop
-Inv-loop layout gains slots decorrelated₀ channels k₀ decorrelated k = (k ≤ channels) × ((channels ≤ 91) × (length decorrelated ≡ 5824))
+Inv-loop layout gains slots decorrelated₀ passes k₀ decorrelated k = (k ≤ passes) × ((passes ≤ 50) × (length decorrelated ≡ 3200))
 
 abbrev μ-loop : tie.MeasureT-loop
-μ-loop layout gains slots decorrelated₀ channels k₀ decorrelated k = channels - k
+μ-loop layout gains slots decorrelated₀ passes k₀ decorrelated k = passes - k
 
 pub duck-all-spec : {M : Type 1} → statement M
 duck-all-spec =

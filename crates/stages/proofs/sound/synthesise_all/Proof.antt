@@ -7,10 +7,10 @@ use Rattle.stages.proofs.sound.synthesise_all.Statement.{statement}
 use Rattle.stages.proofs.sound.synthesise_all.Tie as tie
 
 abbrev Inv-loop : tie.InvT-loop
-Inv-loop layout hybrid slots rows₀ channels k₀ rows k = (k ≤ channels) × ((channels ≤ 91) × (length rows ≡ length rows₀))
+Inv-loop layout hybrid slots rows₀ passes k₀ rows k = (k ≤ passes) × ((passes ≤ 50) × (length rows ≡ length rows₀))
 
 abbrev μ-loop : tie.MeasureT-loop
-μ-loop layout hybrid slots rows₀ channels k₀ rows k = channels - k
+μ-loop layout hybrid slots rows₀ passes k₀ rows k = passes - k
 
 pub synthesise-all-spec : {M : Type 1} → statement M
 synthesise-all-spec =

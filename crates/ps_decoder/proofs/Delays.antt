@@ -1,0 +1,139 @@
+-- Where the flat lists of a frame hold its input, ducking factors and coefficients, its plain delays give the left and right of the definitions, and leave
+-- the memory that holds the definitions' channels. Assumes nothing.
+use mathlib.Core.Path.{_≡_, refl, sym, ap, ap₂, _∙_}
+use mathlib.Core.Bool.{Bool, true, false, cond}
+use mathlib.Core.List.{List, _∷_}
+use Prim.Native.Nat.{ℕ, zero, suc, _+_, _-_, _*_, _<_, _≤_, min}
+use native.Mathlib.Omega.{arith}
+use borrow.Author.Tests.{le-ltb, eq-eqb, le-leb}
+use lib.Dec.{ltb}
+use lib.Ieee.{Float}
+use lib.ListN.{length}
+use Rattle.complex.specs.declared.Complex.{Complex}
+use Rattle.complex.specs.Operations.{scaled}
+use Rattle.layout.specs.declared.Layout.{Layout}
+use Rattle.layout.specs.declared.Layout.the-variants.{Bands20, Bands34}
+use Rattle.layout.specs.Numbers.{channelsOf, allPassOf, shortDelayOf, splitOf, unsplitFromOf}
+use Rattle.lists.specs.Part.{part}
+use Rattle.lists.proofs.Rows.{rows-same}
+use Rattle.planar.specs.Frame.{qmfAt, qmfRows, qmfBandOf}
+use Rattle.planar.specs.Window.{imageOf}
+use Rattle.ps_decorr.specs.Channels.{channelIn, delayOf, longWith, shortWith}
+use Rattle.ps_delay_channels.specs.Channels as delayed
+use Rattle.ps_map.specs.Bands.{bandOf, conjugatedOf}
+use Rattle.ps_map.proofs.Bands.{band-small}
+use Rattle.standard.specs.declared.Chain.{Chain}
+use Rattle.standard.specs.declared.Matrix.{Matrix}
+use Rattle.standard.specs.Channel.{Channel, chainOf, back, channelAfter, channelAt, pastAt, channelOutput}
+use Rattle.standard.specs.Core.{Frame, Core, channelThen, decorrelated, matrixThen}
+use Rattle.standard.specs.Mixing.{leftOf, rightOf}
+use Rattle.ps_decoder.proofs.Flat.{Flat, row-is}
+
+-- a channel's chain does not bear on what came in
+past-of : (chain : Chain) (c : Channel) (x : ℕ → Complex) (n : ℕ) → channelAt chain c x n .past ≡ pastAt (c .past) x n
+unfolding channelAt channelAfter pastAt
+past-of chain c x zero = refl
+past-of chain c x (suc n) = ap (λ (h : List Complex). x n ∷ h) (past-of chain c x n)
+
+past-same : (past : List Complex) (x y : ℕ → Complex) (n : ℕ) → ((m : ℕ) → m < n → x m ≡ y m) → pastAt past x n ≡ pastAt past y n
+unfolding pastAt
+past-same past x y zero same = refl
+past-same past x y (suc n) same = ap₂ (λ (z : Complex) (h : List Complex). z ∷ h) (same n (omega arith)) (past-same past x y n (λ m u. same m (omega arith)))
+
+-- the two kinds of delay, each read off its own memory
+past-kind : (t : Bool) (c d : Channel) → cond t (c .past) (d .past) ≡ cond {A = Channel} t c d .past
+past-kind true c d = refl
+past-kind false c d = refl
+
+reach-kind : (t : Bool) (h : List Complex) → back (cond t 13 0) h ≡ cond t (back 13 h) (back 0 h)
+reach-kind true h = refl
+reach-kind false h = refl
+
+long-inside : (l : Layout) (j : ℕ) → j < 12 → allPassOf l + j < channelsOf l
+long-inside Bands20 j u = omega arith
+long-inside Bands34 j u = omega arith
+
+short-inside : (l : Layout) (j : ℕ) → j < 29 → shortDelayOf l + j < channelsOf l
+short-inside Bands20 j u = omega arith
+short-inside Bands34 j u = omega arith
+
+all-pass-least : (l : Layout) → allPassOf l ≤ shortDelayOf l
+all-pass-least Bands20 = omega arith
+all-pass-least Bands34 = omega arith
+
+module _ {f : Frame} {s : Core} {places : List ℕ} {count : ℕ} {samples input gains rows delays long short : List Float}
+    (flat : Flat f s places count samples input gains rows delays long short) where
+  abbrev l : Layout
+  l = f .head .layout
+
+  abbrev slots : ℕ
+  slots = f .head .slots
+
+  -- the memory's part of a plain delay
+  memory-is : (k : ℕ) → allPassOf l ≤ k → delayed.pastOf l places count input gains rows long short k ≡ s .channel k .past
+  unfolding channelIn
+  memory-is k u =
+      past-kind (ltb k (shortDelayOf l)) (delayOf 14 (part (28 * (k - allPassOf l)) 28 long)) (delayOf 1 (part (2 * (k - shortDelayOf l)) 2 short))
+      ∙ ap (λ (c : Channel). c .past) (rw (le-ltb k (allPassOf l) u) at (flat .channel k))
+
+  past-then : (k n : ℕ) → allPassOf l ≤ k → k < channelsOf l → n ≤ slots → delayed.pastThen l places count input gains rows long short k n ≡ channelThen f s k n .past
+  unfolding delayed.pastThen channelThen
+  past-then k n u w h =
+      past-same _ (λ m. qmfAt input m (qmfBandOf l k)) (λ m. f .sample m k) n (λ m v. row-is flat m k (omega arith) u w)
+      ∙ ap (λ (g : List Complex). pastAt g (λ m. f .sample m k) n) (memory-is k u)
+      ∙ sym (past-of (chainOf l k) (s .channel k) (λ m. f .sample m k) n)
+
+  decorrelated-same : (n k : ℕ) → n < slots → allPassOf l ≤ k → k < channelsOf l → delayed.decorrelated l places count input gains rows long short n k ≡ decorrelated f s n k
+  unfolding delayed.decorrelated decorrelated channelOutput
+  decorrelated-same n k h u w =
+      rw (le-ltb k (allPassOf l) u)
+      (ap₂ (λ (y : Complex) (factor : Float). scaled y factor)
+      (reach-kind (ltb k (shortDelayOf l)) (delayed.pastThen l places count input gains rows long short k n) ∙ ap (λ (g : List Complex). cond (ltb k (shortDelayOf l)) (back 13 g) (back 0 g)) (past-then k n u w (omega arith)))
+      (flat .gain (bandOf l k) n (band-small l k) h))
+
+  -- one of the two sides
+  pub delay-side : (side : Bool → Matrix → Complex → Complex → Complex) (n k : ℕ) → n < slots → allPassOf l ≤ k → k < channelsOf l
+      → delayed.sideAt l places count input gains rows long short side n k
+      ≡ side (conjugatedOf l k) (matrixThen f s (bandOf l k) n) (f .sample n k) (decorrelated f s n k)
+  unfolding delayed.sideAt delayed.matrixThen
+  delay-side side n k h u w =
+      ap₂ (λ (m : Matrix) (x : Complex). side (conjugatedOf l k) m x (delayed.decorrelated l places count input gains rows long short n k))
+      (flat .matrix (bandOf l k) n (band-small l k)) (row-is flat n k h u w)
+      ∙ ap (side (conjugatedOf l k) (matrixThen f s (bandOf l k) n) (f .sample n k)) (decorrelated-same n k h u w)
+
+  -- a side with the bands of the plain delays
+  abbrev pub highAt : (Bool → Matrix → Complex → Complex → Complex) → List Float → ℕ → ℕ → Complex
+  highAt side old n q = cond (ltb q (qmfBandOf l (allPassOf l))) (qmfAt old n q) (delayed.sideAt l places count input gains rows long short side n (q + unsplitFromOf l - splitOf l))
+
+  -- ---- what they leave, where the input and the outputs have a frame's rows
+  module _ (left right : List Float) (few : slots ≤ 32) (left-long : length left ≡ 128 * slots) (right-long : length right ≡ 128 * slots) (room : 128 * slots ≤ length input) where
+    all-slots : min slots 32 ≡ slots
+    all-slots = omega arith
+
+    fits : delayed.fits l places count input gains rows long short slots left right ≡ true
+    fits =
+        rw (
+          eq-eqb (length left) (128 * min slots 32) (left-long ∙ ap (λ (n : ℕ). 128 * n) (omega arith)),
+          eq-eqb (length right) (128 * min slots 32) (right-long ∙ ap (λ (n : ℕ). 128 * n) (omega arith)),
+          le-leb (128 * min slots 32) (length input) (omega arith),
+        )
+
+    pub delays-left : delayed.leftAfter l places count input gains rows long short slots left right ≡ qmfRows slots (highAt leftOf left)
+    unfolding delayed.leftAfter delayed.sideRows
+    delays-left = ap₂ (λ (t : Bool) (n : ℕ). cond t (delayed.sideRows l places count input gains rows long short leftOf n left) left) fits all-slots
+
+    pub delays-right : delayed.rightAfter l places count input gains rows long short slots left right ≡ qmfRows slots (highAt rightOf right)
+    unfolding delayed.rightAfter delayed.sideRows
+    delays-right = ap₂ (λ (t : Bool) (n : ℕ). cond t (delayed.sideRows l places count input gains rows long short rightOf n right) right) fits all-slots
+
+    pub long-after : delayed.longAfter l places count input gains rows long short slots left right ≡ longWith l (λ k. channelThen f s k slots)
+    unfolding delayed.longAfter longWith
+    long-after =
+        rw (fits, all-slots)
+        (rows-same _ _ 12 (λ j u. ap (imageOf 14) (past-then (allPassOf l + j) slots (omega arith) (long-inside l j u) (omega arith))))
+
+    pub short-after : delayed.shortAfter l places count input gains rows long short slots left right ≡ shortWith l (λ k. channelThen f s k slots)
+    unfolding delayed.shortAfter shortWith
+    short-after =
+        rw (fits, all-slots)
+        (rows-same _ _ 29 (λ j u. ap (imageOf 1) (past-then (shortDelayOf l + j) slots (omega (arith, all-pass-least l)) (short-inside l j u) (omega arith))))

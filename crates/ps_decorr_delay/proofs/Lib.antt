@@ -1,4 +1,0 @@
-pub mod Copies
-pub mod Past
-pub mod Passed
-pub mod Places

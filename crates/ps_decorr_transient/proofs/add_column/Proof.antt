@@ -1,0 +1,39 @@
+-- `ps_decorr_transient::add_column` meets its contract: each turn adds one slot's power to what stood there. Assumes nothing.
+use mathlib.Core.Path.{_≡_}
+use Prim.Native.Nat.{_≤_, _-_}
+use borrow.Author.Needs.{needs}
+use native.Mathlib.Omega.{arith}
+use Rattle.standard.specs.Numbers.{_⊕_}
+use Rattle.ps_decorr_transient.specs.Rows.{Row, added, inColumn}
+use Rattle.ps_decorr_transient.proofs.Rows.{row-none, row-more, row-next}
+use Rattle.ps_decorr_transient.proofs.add_column.Statement.{statement}
+use Rattle.ps_decorr_transient.proofs.add_column.Tie as tie
+
+abbrev Inv-loop : tie.InvT-loop
+Inv-loop gains₀ at input from slots n₀ gains n = (n ≤ slots) × Row (added gains₀ at (inColumn input from)) at n gains₀ gains
+
+abbrev μ-loop : tie.MeasureT-loop
+μ-loop gains₀ at input from slots n₀ gains n = slots - n
+
+loop-holds : tie.Need-loop-holds Inv-loop μ-loop
+loop-holds c = (omega arith, row-none _ _ _)
+
+loop-again : tie.Need-loop-again Inv-loop μ-loop
+unfolding added _⊕_
+loop-again c =
+    let l = c .before .before .before .before in
+    let r = l .loop .inv .1 in
+    (omega arith, row-more r _ (rw (row-next r)) (omega arith))
+
+returns : tie.Need-returns Inv-loop μ-loop
+returns c =
+    let l = c .before in
+    let e : l .loop .n ≡ l .before .args .slots = omega arith in
+    rw e at (l .loop .inv .1)
+
+pub add-column-spec : {M : Type 1} → statement M
+add-column-spec =
+    tie.close
+    (tie.spec Inv-loop μ-loop loop-holds (λ c. search needs) (λ c. search needs) (λ c. search needs) (λ c. search needs) (λ c. search needs)
+    (λ c. search needs) (λ c. search needs) (λ c. search needs) (λ c. search needs) (λ c. search needs) (λ c. search needs) (λ c. search needs)
+    (λ c. search needs) (λ c. search needs) (λ c. search needs) loop-again (λ c. search needs) returns)

@@ -1,0 +1,9 @@
+pub mod Numbers
+pub mod Past
+pub mod Sofar
+pub mod Spans
+pub mod Finishing
+pub mod Ending
+pub mod Slots
+pub mod Bands
+pub mod Keeping

@@ -1,0 +1,97 @@
+// QMF bands side by side, slot after slot: a slot's coefficients stand still while its bands go by. Private to the crate.
+ghost use mathlib.Core.Path.{_≡_};
+ghost use Prim.Native.Nat.{_<_, _≤_};
+ghost use lib.ListN.{length};
+ghost use Rattle.standard.specs.Mixing.{leftOf, rightOf};
+ghost use Rattle.ps_delay_channels.specs.Rows.{Before, Frame, Side, Weighed, Banded, earlier, mixedAt};
+
+// One slot of `count` bands, into both sides.
+fn weigh(
+    runs: &[f64],
+    n: usize,
+    factor: f64,
+    count: usize,
+    samples: &[f64],
+    delayed: &[f64],
+    left: &mut [f64],
+    right: &mut [f64],
+)
+    requires { ⌜ (length (now runs) ≡ 256) × (n < 32) ⌝ }
+    requires { ⌜ Side count (now samples) (now delayed) (now left) (now right) ⌝ }
+    ensures left { λ _. ⌜ Weighed leftOf (now (runs .entry)) n factor count (now (samples .entry)) (now (delayed .entry)) (now (left .exit)) ⌝ }
+    ensures right { λ _. ⌜ Weighed rightOf (now (runs .entry)) n factor count (now (samples .entry)) (now (delayed .entry)) (now (right .exit)) ⌝ }
+{
+    let a = runs[n];
+    let b = runs[n + 32];
+    let c = runs[n + 64];
+    let d = runs[n + 96];
+    let e = runs[n + 128];
+    let f = runs[n + 160];
+    let g = runs[n + 192];
+    let h = runs[n + 224];
+    for j in 0..count {
+        let x = samples[2 * j];
+        let y = samples[2 * j + 1];
+        let u = delayed[2 * j] * factor;
+        let v = delayed[2 * j + 1] * factor;
+        left[2 * j] = (a * x - b * y) + (e * u - f * v);
+        left[2 * j + 1] = (a * y + b * x) + (e * v + f * u);
+        right[2 * j] = (c * x - d * y) + (g * u - h * v);
+        right[2 * j + 1] = (c * y + d * x) + (g * v + h * u);
+    }
+}
+
+// QMF bands of one stereo band over a frame, each beside what came `delay` slots before: in the first slots that stands in rows from before the frame.
+pub fn bands(
+    runs: &[f64],
+    gains: &[f64],
+    input: &[f64],
+    from: usize,
+    count: usize,
+    before: &[f64],
+    row: usize,
+    first: usize,
+    delay: usize,
+    slots: usize,
+    left: &mut [f64],
+    right: &mut [f64],
+)
+    requires { ⌜ (length (now runs) ≡ 256) × (length (now gains) ≡ 32) ⌝ }
+    requires { ⌜ Frame from count slots (now input) (now left) (now right) × Before delay row first from count (now before) ⌝ }
+    requires { ⌜ row ≤ 128 ⌝ }
+    ensures left { λ _. ⌜ Banded from count slots (mixedAt leftOf (now (runs .entry)) (now (gains .entry)) (now (input .entry))
+        (earlier delay row first (now (before .entry)) (now (input .entry)))) (now (left .entry)) (now (left .exit)) ⌝ }
+    ensures right { λ _. ⌜ Banded from count slots (mixedAt rightOf (now (runs .entry)) (now (gains .entry)) (now (input .entry))
+        (earlier delay row first (now (before .entry)) (now (input .entry)))) (now (right .entry)) (now (right .exit)) ⌝ }
+{
+    let wide = 2 * count;
+    for n in 0..slots {
+        let at = 128 * n + 2 * from;
+        let factor = gains[n];
+        if n < delay {
+            let then = row * n + 2 * (from - first);
+            weigh(
+                runs,
+                n,
+                factor,
+                count,
+                &input[at..at + wide],
+                &before[then..then + wide],
+                &mut left[at..at + wide],
+                &mut right[at..at + wide],
+            );
+        } else {
+            let then = 128 * (n - delay) + 2 * from;
+            weigh(
+                runs,
+                n,
+                factor,
+                count,
+                &input[at..at + wide],
+                &input[then..then + wide],
+                &mut left[at..at + wide],
+                &mut right[at..at + wide],
+            );
+        }
+    }
+}

@@ -1,0 +1,300 @@
+// An accepted frame, stage by stage, from a decoder that is ready for it.
+use super::compare;
+use super::compare::Compared;
+use super::frame::Checked;
+use super::sound;
+use cue::Header;
+use layout::Layout;
+use ps_data::PsIndexState;
+use ps_data::PsIndices;
+use ps_data::Resolved;
+use ps_decorr::PsDecorr;
+use ps_state::PsDecoder;
+use ps_stereo::PsStereo;
+use standard::Modes;
+ghost use mathlib.Core.Path.{_≡_};
+ghost use Prim.Native.Nat.{_≤_};
+ghost use lib.ListN.{length};
+
+// A frame up to de-correlation of its all-pass channels, before ducking.
+struct Heard {
+    history: [f64; 60],
+    delays: [f64; 1400],
+    detectors: [f64; 102],
+    samples: [f64; 3200],
+    gains: [f64; 1088],
+    decorrelated: [f64; 3200],
+}
+
+fn hear(state: PsDecoder, slots: usize, input: &[f64]) -> Heard {
+    let layout = state.layout;
+    let mut history = state.history;
+    let mut samples = [0.0; 3200];
+    ps_hybrid_analysis::analyse(layout, state.asked, &mut history, input, &mut samples);
+    let decorr = state.decorr;
+    let mut detectors = decorr.detectors;
+    let mut gains = [0.0; 1088];
+    ps_decorr_transient::duck(layout, &mut detectors, &samples, input, slots, &mut gains);
+    let mut delays = decorr.delays;
+    let mut out = [0.0; 3200];
+    sound::decorrelate(layout, &mut delays, &samples, slots, &mut out);
+    Heard {
+        history: history,
+        delays: delays,
+        detectors: detectors,
+        samples: samples,
+        gains: gains,
+        decorrelated: out,
+    }
+}
+
+// How the coefficients of a frame are made.
+fn modes(header: Header) -> Modes {
+    let config = header.config;
+    let iid = config.iid;
+    let icc = config.icc;
+    Modes {
+        fine: 3 <= iid.mode,
+        rb: 3 <= icc.mode,
+        phase: header.phase,
+    }
+}
+
+// The coefficients at the borders, and the state of mixing after them.
+fn coefficients(
+    state: PsDecoder,
+    header: Header,
+    indices: PsIndices,
+    rows: &mut [f64; 1360],
+) -> PsStereo {
+    let layout = state.layout;
+    let stereo = state.stereo;
+    let config = header.config;
+    let envelopes = header.envelopes as usize;
+    ps_stereo_borders::coefficients(
+        layout,
+        modes(header),
+        config,
+        indices,
+        envelopes,
+        stereo,
+        rows,
+    )
+}
+
+// Every all-pass channel's left and right.
+fn mix(
+    state: PsDecoder,
+    header: Header,
+    positions: [u8; 4],
+    rows: &[f64; 1360],
+    samples: &[f64; 3200],
+    gains: &[f64; 1088],
+    decorrelated: &[f64; 3200],
+    left: &mut [f64; 3200],
+    right: &mut [f64; 3200],
+) {
+    let layout = state.layout;
+    let envelopes = header.envelopes as usize;
+    let borders = borders::borders(state.asked, header.variable, envelopes, positions);
+    let slots = borders::slots(state.asked);
+    sound::mix(
+        layout,
+        borders,
+        envelopes,
+        rows,
+        samples,
+        decorrelated,
+        gains,
+        slots,
+        left,
+        right,
+    );
+}
+
+// The decoder after a frame.
+fn after(
+    ready: PsDecoder,
+    cued: bool,
+    indices: PsIndexState,
+    history: [f64; 60],
+    decorr: PsDecorr,
+    stereo: PsStereo,
+) -> PsDecoder {
+    let layout = ready.layout;
+    PsDecoder {
+        asked: ready.asked,
+        layout: layout,
+        configured: true,
+        cued: cued,
+        indices: indices,
+        history: history,
+        decorr: decorr,
+        stereo: stereo,
+    }
+}
+
+// The plain delays over their memory, into the frame's rows of both sides.
+fn delays(
+    layout: Layout,
+    borders: [u8; 4],
+    envelopes: usize,
+    input: &[f64],
+    gains: &[f64; 1088],
+    rows: &[f64; 1360],
+    long: &mut [f64; 336],
+    short: &mut [f64; 58],
+    slots: usize,
+    left: &mut [f64],
+    right: &mut [f64],
+)
+    requires { ⌜ (slots ≤ 32) × ((length (now left) ≡ 4096) × (length (now right) ≡ 4096)) ⌝ }
+{
+    let numbers = 128 * slots;
+    ps_delay_channels::delay_channels(
+        layout,
+        borders,
+        envelopes,
+        input,
+        gains,
+        rows,
+        long,
+        short,
+        slots,
+        &mut left[0..numbers],
+        &mut right[0..numbers],
+    );
+}
+
+// Both sides in QMF rows: the all-pass channels, then the plain delays.
+fn synthesise(
+    state: PsDecoder,
+    header: Header,
+    positions: [u8; 4],
+    input: &[f64],
+    gains: &[f64; 1088],
+    rows: &[f64; 1360],
+    lefts: &[f64; 3200],
+    rights: &[f64; 3200],
+    long: &mut [f64; 336],
+    short: &mut [f64; 58],
+    left: &mut [f64; 4096],
+    right: &mut [f64; 4096],
+) {
+    let layout = state.layout;
+    let envelopes = header.envelopes as usize;
+    let borders = borders::borders(state.asked, header.variable, envelopes, positions);
+    let slots = borders::slots(state.asked);
+    sound::synthesise(layout, lefts, slots, left);
+    sound::synthesise(layout, rights, slots, right);
+    delays(
+        layout,
+        borders,
+        envelopes,
+        input,
+        gains,
+        rows,
+        long,
+        short,
+        slots,
+        left,
+        right,
+    );
+}
+
+// A frame of the asked slots against the stream, stage by stage.
+fn compared(
+    asked: usize,
+    layout: Layout,
+    samples: &[f64; 3200],
+    decorrelated: &[f64; 3200],
+    lefts: &[f64; 3200],
+    rights: &[f64; 3200],
+    left: &[f64; 4096],
+    right: &[f64; 4096],
+) -> Compared {
+    let slots = borders::slots(asked);
+    compare::stages(
+        layout,
+        slots,
+        samples,
+        decorrelated,
+        lefts,
+        rights,
+        left,
+        right,
+    )
+}
+
+// The frame, compared at each stage.
+pub fn play(ready: PsDecoder, header: Header, resolved: Resolved, input: &[f64]) -> Checked {
+    let layout = ready.layout;
+    let slots = borders::slots(ready.asked);
+    let heard = hear(ready, slots, input);
+    let samples = heard.samples;
+    let gains = heard.gains;
+    let mut decorrelated = heard.decorrelated;
+    let indices = resolved.indices;
+    let positions = resolved.positions;
+    let mut rows = [0.0; 1360];
+    let stereo = coefficients(ready, header, indices, &mut rows);
+    let mut lefts = [0.0; 3200];
+    let mut rights = [0.0; 3200];
+    mix(
+        ready,
+        header,
+        positions,
+        &rows,
+        &samples,
+        &gains,
+        &decorrelated,
+        &mut lefts,
+        &mut rights,
+    );
+    sound::duck(layout, &gains, slots, &mut decorrelated);
+    let decorr = ready.decorr;
+    let mut long = decorr.long;
+    let mut short = decorr.short;
+    let mut left = [0.0; 4096];
+    let mut right = [0.0; 4096];
+    synthesise(
+        ready,
+        header,
+        positions,
+        input,
+        &gains,
+        &rows,
+        &lefts,
+        &rights,
+        &mut long,
+        &mut short,
+        &mut left,
+        &mut right,
+    );
+    let found = compared(
+        ready.asked,
+        layout,
+        &samples,
+        &decorrelated,
+        &lefts,
+        &rights,
+        &left,
+        &right,
+    );
+    let verdict = found.verdict;
+    let kept = resolved.state;
+    let history = heard.history;
+    let delays = heard.delays;
+    let detectors = heard.detectors;
+    let memory = PsDecorr {
+        delays: delays,
+        long: long,
+        short: short,
+        detectors: detectors,
+    };
+    Checked {
+        decoder: after(ready, header.cued, kept, history, memory, stereo),
+        held: found.held,
+        verdict: verdict,
+    }
+}
