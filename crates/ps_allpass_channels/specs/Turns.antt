@@ -1,6 +1,6 @@
 -- What the crate's own functions ask and answer of the channels' sides: the coefficients of a band, one channel, and the channels of a block.
 -- Assumes nothing.
-use Prim.Native.Nat.{ℕ, _+_, _*_, _<_, _≤_, min}
+use Prim.Native.Nat.{ℕ, _+_, _*_, _<_, _≤_}
 use mathlib.Core.Bool.{Bool}
 use mathlib.Core.List.{List}
 use mathlib.Core.Path.{_≡_}
@@ -11,12 +11,12 @@ use Rattle.complex.specs.Operations.{scaled}
 use Rattle.layout.specs.declared.Layout.{Layout}
 use Rattle.lists.specs.Part.{part}
 use Rattle.planar.specs.Cells.{cell}
-use Rattle.planar.specs.Frame.{sampleAt, matrixAt}
+use Rattle.planar.specs.Frame.{sampleAt}
 use Rattle.ps_map.specs.Bands.{parameterMap, bandOf, conjugatedOf}
 use Rattle.ps_stereo_slots.specs.Coefficients.{Fractions}
-use Rattle.ps_stereo_slots.specs.Slots.{bordersOf, fractionAt, borderMatrix}
+use Rattle.ps_stereo_slots.specs.Slots.{bordersOf, borderMatrix}
 use Rattle.standard.specs.declared.Matrix.{Matrix}
-use Rattle.standard.specs.Interpolation.{fraction, matrixBy, matrixIn}
+use Rattle.standard.specs.Interpolation.{matrixIn}
 use Rattle.standard.specs.Mixing.{leftOf, rightOf}
 
 -- ---- what is lent to every channel

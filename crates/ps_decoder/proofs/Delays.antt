@@ -22,6 +22,7 @@ use Rattle.ps_decorr.specs.Channels.{channelIn, delayOf, longWith, shortWith}
 use Rattle.ps_delay_channels.specs.Channels as delayed
 use Rattle.ps_map.specs.Bands.{bandOf, conjugatedOf}
 use Rattle.ps_map.proofs.Bands.{band-small}
+use Rattle.ps_state.proofs.Alike.{long-inside, short-inside}
 use Rattle.standard.specs.declared.Chain.{Chain}
 use Rattle.standard.specs.declared.Matrix.{Matrix}
 use Rattle.standard.specs.Channel.{Channel, chainOf, back, channelAfter, channelAt, pastAt, channelOutput}
@@ -48,14 +49,6 @@ past-kind false c d = refl
 reach-kind : (t : Bool) (h : List Complex) → back (cond t 13 0) h ≡ cond t (back 13 h) (back 0 h)
 reach-kind true h = refl
 reach-kind false h = refl
-
-long-inside : (l : Layout) (j : ℕ) → j < 12 → allPassOf l + j < channelsOf l
-long-inside Bands20 j u = omega arith
-long-inside Bands34 j u = omega arith
-
-short-inside : (l : Layout) (j : ℕ) → j < 29 → shortDelayOf l + j < channelsOf l
-short-inside Bands20 j u = omega arith
-short-inside Bands34 j u = omega arith
 
 all-pass-least : (l : Layout) → allPassOf l ≤ shortDelayOf l
 all-pass-least Bands20 = omega arith

@@ -28,7 +28,7 @@ all-pass-few : (l : Layout) → allPassOf l ≤ 50
 all-pass-few Bands20 = omega arith
 all-pass-few Bands34 = omega arith
 
-unsplit-first : (l : Layout) → unsplitFromOf l ≤ allPassOf l
+pub unsplit-first : (l : Layout) → unsplitFromOf l ≤ allPassOf l
 unsplit-first Bands20 = omega arith
 unsplit-first Bands34 = omega arith
 

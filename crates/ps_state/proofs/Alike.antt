@@ -1,7 +1,7 @@
 -- States that are near are held by the same numbers: an image of d entries reads a history no further back than d. Assumes nothing.
 use Prim.Native.Nat.{ℕ, suc, _+_, _-_, _<_}
 use native.Mathlib.Omega.{arith}
-use mathlib.Core.Path.{_≡_, refl, sym, ap, ap₂, _∙_}
+use mathlib.Core.Path.{_≡_, refl, ap, ap₂, _∙_}
 use mathlib.Core.Bool.{Bool, true, false, cond}
 use mathlib.Core.List.{List, _++_}
 use borrow.Author.Tests.{ltb-true, lt-ltb, le-ltb}
@@ -9,12 +9,11 @@ use lib.Dec.{ltb}
 use lib.IntN.{ℤ}
 use lib.Ieee.{Float}
 use Rattle.calls.specs.Call.{Playing}
-use Rattle.calls.specs.Near.{Alike, reachOf, NearChannel, NearCore, Near}
+use Rattle.calls.specs.Near.{Alike, reachOf, NearChannel, Near}
 use Rattle.complex.specs.declared.Complex.{Complex}
 use Rattle.layout.specs.declared.Layout.{Layout}
 use Rattle.layout.specs.declared.Layout.the-variants.{Bands20, Bands34}
 use Rattle.layout.specs.Numbers.{splitOf, bandsOf, channelsOf, allPassOf, shortDelayOf}
-use Rattle.lists.specs.Rows.{rows, tabulate}
 use Rattle.lists.proofs.Maps.{tabulate-same}
 use Rattle.lists.proofs.Rows.{rows-same}
 use Rattle.planar.specs.Cells.{overwritten}
@@ -25,7 +24,6 @@ use Rattle.ps_decorr_allpass.specs.Memory.{memoryOf}
 use Rattle.ps_stereo.specs.declared.PsStereo.{PsStereo}
 use Rattle.ps_stereo.specs.Kept.{keptIn, stereoWith}
 use Rattle.standard.specs.Channel.{Channel, back}
-use Rattle.standard.specs.Core.{Core}
 use Rattle.standard.specs.Detector.{Detector}
 use Rattle.standard.specs.Mixing.{Kept}
 use Rattle.ps_state.specs.declared.PsDecoder.{PsDecoder}
@@ -60,11 +58,11 @@ chain-inside : (l : Layout) (k : ℕ) → k < allPassOf l → k < channelsOf l
 chain-inside Bands20 k u = omega arith
 chain-inside Bands34 k u = omega arith
 
-long-inside : (l : Layout) (j : ℕ) → j < 12 → allPassOf l + j < channelsOf l
+pub long-inside : (l : Layout) (j : ℕ) → j < 12 → allPassOf l + j < channelsOf l
 long-inside Bands20 j u = omega arith
 long-inside Bands34 j u = omega arith
 
-short-inside : (l : Layout) (j : ℕ) → j < 29 → shortDelayOf l + j < channelsOf l
+pub short-inside : (l : Layout) (j : ℕ) → j < 29 → shortDelayOf l + j < channelsOf l
 short-inside Bands20 j u = omega arith
 short-inside Bands34 j u = omega arith
 

@@ -1,5 +1,5 @@
 -- `ps_hybrid_analysis::filter::modulated` meets its contract: the pair that is read is the tap's root. Assumes nothing.
-use mathlib.Core.Path.{_≡_, sym, ap, _∙_}
+use mathlib.Core.Path.{_≡_, sym, _∙_}
 use mathlib.Core.List.{List}
 use Prim.Native.Nat.{ℕ, _*_}
 use borrow.Author.Needs.{needs}
