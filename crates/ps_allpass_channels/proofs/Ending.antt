@@ -10,8 +10,9 @@ use lib.Ieee.{Float}
 use lib.ListN.{length}
 use Rattle.layout.specs.declared.Layout.{Layout}
 use Rattle.layout.specs.Numbers.{allPassOf}
-use Rattle.ps_allpass_channels.specs.Channels.{leftAfter, rightAfter, delaysAfter}
+use Rattle.ps_allpass_channels.specs.Channels.{channelThen, leftAfter, rightAfter, delaysAfter}
 use Rattle.ps_allpass_channels.specs.Sofar.{Sofar}
+use Rattle.ps_allpass_channels.specs.Turns.{matrixOf}
 use Rattle.ps_allpass_channels.proofs.Finishing.{chains-are, left-is, right-is}
 
 module _ (l : Layout) (borders : List ℕ) (count : ℕ) (samples gains rows delays : List Float) (slots : ℕ) (left right : List Float) where
@@ -39,8 +40,8 @@ module _ (l : Layout) (borders : List ℕ) (count : ℕ) (samples gains rows del
           (rw (yes, no), (rw (yes, no), rw (yes, no)))
 
       pub all-done : length right ≡ 128 * within → length delays ≡ 1400 → (new-left new-right chains : List Float)
-          → Sofar l borders count samples gains rows within delays left right (allPassOf l) chains new-left new-right → Outcome new-left new-right chains
-      unfolding leftAfter rightAfter delaysAfter
+          → Sofar l (matrixOf borders count rows) samples gains within delays left right (allPassOf l) chains new-left new-right → Outcome new-left new-right chains
+      unfolding leftAfter rightAfter delaysAfter channelThen
       all-done h sized new-left new-right chains s =
           let both : eqb (length right) (128 * min slots 32) ≡ true = eq-eqb (length right) (128 * min slots 32) (rw (← counted) h) in (
             rw (yes, both, ← counted) (left-is l borders count samples gains rows delays within left right chains new-left new-right s fits),

@@ -19,8 +19,9 @@ use Rattle.ps_decorr.specs.Channels.{delaysWith}
 use Rattle.ps_decorr_allpass.specs.Memory.{memoryOf}
 use Rattle.standard.specs.Channel.{Channel}
 use Rattle.standard.specs.Mixing.{leftOf, rightOf}
-use Rattle.ps_allpass_channels.specs.Channels.{sideAt, sideRows}
-use Rattle.ps_allpass_channels.specs.Sofar.{afterwards, Sofar}
+use Rattle.ps_allpass_channels.specs.Channels.{channelThen, decorrelated, matrixThen, sideAt, sideRows}
+use Rattle.ps_allpass_channels.specs.Sofar.{afterwards, sideWith, Sofar}
+use Rattle.ps_allpass_channels.specs.Turns.{matrixOf}
 use Rattle.ps_allpass_channels.proofs.Columns.{risen-passed}
 use Rattle.ps_allpass_channels.proofs.Numbers.{all-pass-small}
 
@@ -35,9 +36,9 @@ rows-behind w from (suc m) f old =
     rw (add-suc, rows-behind w from m f old, past, mul-suc, take-add, drop-drop, mul-add, append-assoc)
 
 module _ (l : Layout) (borders : List ℕ) (count : ℕ) (samples gains rows delays : List Float) (slots : ℕ)
-    (left right chains new-left new-right : List Float) (s : Sofar l borders count samples gains rows slots delays left right (allPassOf l) chains new-left new-right) where
+    (left right chains new-left new-right : List Float) (s : Sofar l (matrixOf borders count rows) samples gains slots delays left right (allPassOf l) chains new-left new-right) where
   abbrev channel-of : ℕ → Channel
-  channel-of = afterwards l borders count samples gains rows slots delays
+  channel-of = afterwards l (matrixOf borders count rows) samples gains slots delays
 
   pub chains-are : length delays ≡ 1400 → chains ≡ delaysWith l channel-of delays
   unfolding delaysWith
@@ -51,9 +52,9 @@ module _ (l : Layout) (borders : List ℕ) (count : ℕ) (samples gains rows del
       ∙ ap (lists.rows (λ k. cond (ltb k (allPassOf l)) (memoryOf (channel-of k)) (part (28 * k) 28 delays))) whole
 
   pub left-is : length left ≡ 128 * slots → new-left ≡ sideRows l borders count samples gains rows delays leftOf slots left
-  unfolding sideRows
-  left-is long = risen-passed l (sideAt l borders count samples gains rows delays leftOf) slots left new-left (s .left-rows) long
+  unfolding sideRows sideAt decorrelated matrixThen channelThen sideWith
+  left-is long = risen-passed l (sideWith l (matrixOf borders count rows) samples gains slots delays leftOf) slots left new-left (s .left-rows) long
 
   pub right-is : length right ≡ 128 * slots → new-right ≡ sideRows l borders count samples gains rows delays rightOf slots right
-  unfolding sideRows
-  right-is long = risen-passed l (sideAt l borders count samples gains rows delays rightOf) slots right new-right (s .right-rows) long
+  unfolding sideRows sideAt decorrelated matrixThen channelThen sideWith
+  right-is long = risen-passed l (sideWith l (matrixOf borders count rows) samples gains slots delays rightOf) slots right new-right (s .right-rows) long

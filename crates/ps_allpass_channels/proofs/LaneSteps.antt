@@ -1,14 +1,11 @@
 -- One slot over the cells of a lane is one slot of its channel: each line gives what its delay asks for, and takes what the channel's history takes.
 -- Assumes nothing.
 use mathlib.Core.Path.{_≡_, refl, sym, ap, ap₂, _∙_}
-use mathlib.Core.Bool.{Bool, true, false}
 use mathlib.Core.Logic.{_≢_}
 use mathlib.Core.List.{List, _∷_}
 use Prim.Native.Nat.{ℕ, zero, suc, _+_, _-_, _<_, _≤_}
 use native.Mathlib.Numerals.{add-one}
 use native.Mathlib.Omega.{arith}
-use borrow.Author.Tests.{eqb-true, eqb-false}
-use lib.Dec.{eqb}
 use Rattle.complex.specs.declared.Complex.{Complex}
 use Rattle.complex.specs.Operations.{product}
 use Rattle.standard.specs.declared.Chain.{Chain}
@@ -28,26 +25,23 @@ channel-next : (chain : Chain) (c : Channel) (x : ℕ → Complex) (n : ℕ)
 unfolding channelAt
 channel-next chain c x n = ap (channelAt chain c x) (add-one n)
 
--- cells that a slot wrote: what the chain gives, and the states of the three links
-pub record Turned (n : ℕ) (y a b d : Complex) (f g : ℕ → Complex) : Type 0 where
-  pub output : g n ≡ y
+-- cells that a slot wrote: the states of the three links
+pub record Turned (n : ℕ) (a b d : Complex) (f g : ℕ → Complex) : Type 0 where
   pub first : g (n + 34 + 3) ≡ a
   pub second : g (n + 69 + 4) ≡ b
   pub third : g (n + 105 + 5) ≡ d
-  pub rest : (j : ℕ) → j ≢ n → j ≢ n + 34 + 3 → j ≢ n + 69 + 4 → j ≢ n + 105 + 5 → g j ≡ f j
+  pub rest : (j : ℕ) → j ≢ n + 34 + 3 → j ≢ n + 69 + 4 → j ≢ n + 105 + 5 → g j ≡ f j
 
 -- they are written one after the other
-pub turned : {n : ℕ} {y a b d : Complex} {f₀ f₁ f₂ f₃ f₄ : ℕ → Complex} → Put (n + 34 + 3) a f₀ f₁ → Put (n + 69 + 4) b f₁ f₂
-    → Put (n + 105 + 5) d f₂ f₃ → Put n y f₃ f₄ → Turned n y a b d f₀ f₄
-turned {n} one two three four =
+pub turned : {n : ℕ} {a b d : Complex} {f₀ f₁ f₂ f₃ : ℕ → Complex} → Put (n + 34 + 3) a f₀ f₁ → Put (n + 69 + 4) b f₁ f₂
+    → Put (n + 105 + 5) d f₂ f₃ → Turned n a b d f₀ f₃
+turned {n} one two three =
     record {
-      output = four .here;
-      first = four .rest (n + 34 + 3) (λ (e : n + 34 + 3 ≡ n). omega arith) ∙ three .rest (n + 34 + 3) (λ (e : n + 34 + 3 ≡ n + 105 + 5). omega arith)
+      first = three .rest (n + 34 + 3) (λ (e : n + 34 + 3 ≡ n + 105 + 5). omega arith)
           ∙ two .rest (n + 34 + 3) (λ (e : n + 34 + 3 ≡ n + 69 + 4). omega arith) ∙ one .here;
-      second = four .rest (n + 69 + 4) (λ (e : n + 69 + 4 ≡ n). omega arith) ∙ three .rest (n + 69 + 4) (λ (e : n + 69 + 4 ≡ n + 105 + 5). omega arith)
-          ∙ two .here;
-      third = four .rest (n + 105 + 5) (λ (e : n + 105 + 5 ≡ n). omega arith) ∙ three .here;
-      rest = λ j p q r s. four .rest j p ∙ three .rest j s ∙ two .rest j r ∙ one .rest j q;
+      second = three .rest (n + 69 + 4) (λ (e : n + 69 + 4 ≡ n + 105 + 5). omega arith) ∙ two .here;
+      third = three .here;
+      rest = λ j p q r. three .rest j r ∙ two .rest j q ∙ one .rest j p;
     }
 
 -- the values of a slot, from the cells before it
@@ -66,7 +60,7 @@ module _ (chain : Chain) (n : ℕ) (f : ℕ → Complex) where
 
   unfoldable pub After : (ℕ → Complex) → Type 0
   After g =
-      Turned n afterThird (linkState entering (chain .first) (f (n + 34))) (linkState afterFirst (chain .second) (f (n + 69)))
+      Turned n (linkState entering (chain .first) (f (n + 34))) (linkState afterFirst (chain .second) (f (n + 69)))
       (linkState afterSecond (chain .third) (f (n + 105))) f g
 
   -- they are those of the channel
@@ -79,7 +73,7 @@ module _ (chain : Chain) (n : ℕ) (f : ℕ → Complex) where
     input-is =
         let there : slots + 1 - n ≡ 1 + (slots - n) = omega arith in
         let whole : slots ≡ n + (slots - n) = omega arith in
-        r .input n (omega arith) (omega arith)
+        r .input n (omega arith)
         ∙ ap (λ (j : ℕ). back j (pastAt (c .past) x slots)) there
         ∙ ap (λ (s : ℕ). back (1 + (slots - n)) (pastAt (c .past) x s)) whole
         ∙ past-older (c .past) x n (slots - n) 1
@@ -109,9 +103,9 @@ module _ (chain : Chain) (n : ℕ) (f : ℕ → Complex) where
     unfolding secondOutput afterSecond
     is-second = ap₂ (λ (z w : Complex). linkOutput z (chain .second) w) is-first second-is
 
-    is-third : afterThird ≡ thirdOutput chain then
-    unfolding thirdOutput afterThird
-    is-third = ap₂ (λ (z w : Complex). linkOutput z (chain .third) w) is-second third-is
+    pub output-is : afterThird ≡ thirdOutput chain (channelAt chain c x n)
+    unfolding thirdOutput afterThird then
+    output-is = ap₂ (λ (z w : Complex). linkOutput z (chain .third) w) is-second third-is
 
     -- one slot further
     module _ (g : ℕ → Complex) (t : After g) where
@@ -122,15 +116,11 @@ module _ (chain : Chain) (n : ℕ) (f : ℕ → Complex) where
       unfolding next then
       is-next = channel-next chain c x n
 
-      stays : (j : ℕ) → n < j → j ≢ n + 34 + 3 → j ≢ n + 69 + 4 → j ≢ n + 105 + 5 → g j ≡ f j
-      unfolding After
-      stays j u p q s = t .rest j (λ (e : j ≡ n). omega arith) p q s
-
       first-next : Line 34 3 (n + 1) g (next .first)
       unfolding After next channelAfter then
       first-next =
           line-push (r .first) (linkState (rotated chain then) (chain .first) (back 2 (then .first)))
-          (λ i u. stays (i + 34) (omega arith)
+          (λ i u. t .rest (i + 34)
           (λ (e : i + 34 ≡ n + 34 + 3). omega arith) (λ (e : i + 34 ≡ n + 69 + 4). omega arith) (λ (e : i + 34 ≡ n + 105 + 5). omega arith))
           (t .first ∙ ap₂ (λ (z w : Complex). linkState z (chain .first) w) is-rotated first-is)
 
@@ -138,7 +128,7 @@ module _ (chain : Chain) (n : ℕ) (f : ℕ → Complex) where
       unfolding After next channelAfter then
       second-next =
           line-push (r .second) (linkState (firstOutput chain then) (chain .second) (back 3 (then .second)))
-          (λ i u. stays (i + 69) (omega arith)
+          (λ i u. t .rest (i + 69)
           (λ (e : i + 69 ≡ n + 34 + 3). omega arith) (λ (e : i + 69 ≡ n + 69 + 4). omega arith) (λ (e : i + 69 ≡ n + 105 + 5). omega arith))
           (t .second ∙ ap₂ (λ (z w : Complex). linkState z (chain .second) w) is-first second-is)
 
@@ -146,31 +136,17 @@ module _ (chain : Chain) (n : ℕ) (f : ℕ → Complex) where
       unfolding After next channelAfter then
       third-next =
           line-push (r .third) (linkState (secondOutput chain then) (chain .third) (back 4 (then .third)))
-          (λ i u. stays (i + 105) (omega arith)
+          (λ i u. t .rest (i + 105)
           (λ (e : i + 105 ≡ n + 34 + 3). omega arith) (λ (e : i + 105 ≡ n + 69 + 4). omega arith) (λ (e : i + 105 ≡ n + 105 + 5). omega arith))
           (t .third ∙ ap₂ (λ (z w : Complex). linkState z (chain .third) w) is-second third-is)
-
-      given-next : (i : ℕ) → i < n + 1 → g i ≡ thirdOutput chain (channelAt chain c x i)
-      unfolding After then
-      given-next i u = go (eqb i n) refl
-        where
-          go : (b : Bool) → eqb i n ≡ b → g i ≡ thirdOutput chain (channelAt chain c x i)
-          go true e =
-              let here : i ≡ n = eqb-true i n e in
-              rw here (t .output ∙ is-third)
-          go false e =
-              let other : i ≡ n → ⊥ = eqb-false i n e in
-              t .rest i other (λ (e : i ≡ n + 34 + 3). omega arith) (λ (e : i ≡ n + 69 + 4). omega arith) (λ (e : i ≡ n + 105 + 5). omega arith)
-              ∙ r .given i (omega arith)
 
       pub lane-next : Lane chain c x slots (n + 1) g
       unfolding After
       lane-next =
           record {
-            given = given-next;
-            input = λ i u w.
-                stays i (omega arith) (λ (e : i ≡ n + 34 + 3). omega arith) (λ (e : i ≡ n + 69 + 4). omega arith) (λ (e : i ≡ n + 105 + 5). omega arith)
-                ∙ r .input i (omega arith) w;
+            input = λ i u.
+                t .rest i (λ (e : i ≡ n + 34 + 3). omega arith) (λ (e : i ≡ n + 69 + 4). omega arith) (λ (e : i ≡ n + 105 + 5). omega arith)
+                ∙ r .input i u;
             first = rw is-next first-next;
             second = rw is-next second-next;
             third = rw is-next third-next;

@@ -13,7 +13,8 @@ use lib.Seq.{getD-set-same, getD-set-other}
 use Rattle.complex.specs.declared.Complex.{Complex}
 use Rattle.planar.specs.Cells.{cell, stored}
 use Rattle.planar.proofs.Cells.{by-parts}
-use Rattle.ps_allpass_channels.specs.Tape.{on, Others, Written, Spread}
+use Rattle.ps_hybrid_synthesis.specs.Lanes.{on}
+use Rattle.ps_allpass_channels.specs.Tape.{Others, Written, Spread}
 
 module _ (xs : List Float) (i : ℕ) (v : Complex) where
   stored-here : i + 4 < length xs → cell 4 (stored 4 xs i v) i ≡ v
@@ -32,7 +33,7 @@ module _ (xs : List Float) (i : ℕ) (v : Complex) where
 pub others-then : {lane : ℕ} {a b c : List Float} → Others lane a b → Others lane b c → Others lane a c
 others-then r s = record { same = λ i u ne. s .same i u ne ∙ r .same i u ne }
 
-pub others-none : (lane : ℕ) (tape : List Float) → Others lane tape tape
+others-none : (lane : ℕ) (tape : List Float) → Others lane tape tape
 others-none lane tape = record { same = λ i u ne. refl }
 
 -- a store into a lane

@@ -1,10 +1,14 @@
--- The numbers of the all-pass channels in either layout, and of the spans of the split bands, which lie below them. Assumes nothing.
+-- The numbers of the bands and the all-pass channels in either layout, and of the spans of the split bands, which lie below them. Assumes nothing.
 use Prim.Native.Nat.{ℕ, zero, suc, _≤_}
 use native.Mathlib.Omega.{arith}
 use Rattle.layout.specs.declared.Layout.{Layout}
 use Rattle.layout.specs.declared.Layout.the-variants.{Bands20, Bands34}
-use Rattle.layout.specs.Numbers.{unsplitFromOf, allPassOf, channelsOf}
+use Rattle.layout.specs.Numbers.{bandsOf, unsplitFromOf, allPassOf, channelsOf}
 use Rattle.standard.specs.Hybrid.{spanOf}
+
+pub bands-small : (l : Layout) → bandsOf l ≤ 34
+bands-small Bands20 = omega arith
+bands-small Bands34 = omega arith
 
 pub all-pass-small : (l : Layout) → allPassOf l ≤ 50
 all-pass-small Bands20 = omega arith

@@ -1,6 +1,6 @@
 pub mod Channels
-pub mod Turns
-pub mod Several
 pub mod Tape
 pub mod Lanes
+pub mod Sides
+pub mod Turns
 pub mod Sofar

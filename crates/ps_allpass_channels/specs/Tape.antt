@@ -1,15 +1,14 @@
--- Four lanes of complex numbers side by side on a tape: cell j of lane i stands at 8 j + i, its imaginary part four places behind it. Assumes nothing.
-use Prim.Native.Nat.{ℕ, _+_, _*_, _≤_, _<_}
+-- Four lanes of complex numbers on a tape, and what is done to its cells. Assumes nothing.
+use Prim.Native.Nat.{ℕ, _+_, _≤_, _<_}
+use mathlib.Core.Bool.{cond}
 use mathlib.Core.List.{List}
 use mathlib.Core.Logic.{_≢_}
 use mathlib.Core.Path.{_≡_}
+use lib.Dec.{eqb}
 use lib.Ieee.{Float}
 use Rattle.complex.specs.declared.Complex.{Complex}
 use Rattle.planar.specs.Cells.{cell, planar, overwritten}
-
--- the cells of a lane
-unfoldable pub on : ℕ → List Float → ℕ → Complex
-on lane tape j = cell 4 tape (8 * j + lane)
+use Rattle.ps_hybrid_synthesis.specs.Lanes.{on}
 
 -- every lane but one is as it was
 pub record Others (lane : ℕ) (tape₀ tape : List Float) : Type 0 where
@@ -35,3 +34,13 @@ pub record Spread (lane place count apart : ℕ) (from tape₀ tape : List Float
 -- a run whose first cells became those of a lane from a place on
 pub record Gathered (lane place count apart : ℕ) (tape to₀ to : List Float) : Type 0 where
   pub is : to ≡ planar apart (overwritten count (λ j. on lane tape (place + j)) (cell apart to₀))
+
+-- one of four things, one for each lane
+unfoldable pub fourOf : {A : Type 0} → A → A → A → A → ℕ → A
+fourOf first second third fourth i = cond (eqb i 0) first (cond (eqb i 1) second (cond (eqb i 2) third fourth))
+
+-- a tape onto which the slots of four runs were laid, from cell 2 on
+pub record Laid (runs : ℕ → List Float) (slots : ℕ) (tape₀ tape : List Float) : Type 0 where
+  pub within : (i j : ℕ) → i < 4 → j < slots → on i tape (j + 2) ≡ cell 32 (runs i) j
+  pub below : (i j : ℕ) → i < 4 → j < 2 → on i tape j ≡ on i tape₀ j
+  pub above : (i j : ℕ) → i < 4 → slots + 2 ≤ j → on i tape j ≡ on i tape₀ j

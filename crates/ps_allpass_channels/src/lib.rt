@@ -1,8 +1,8 @@
 // The all-pass channels of a frame (source documents 000 to 002): each is de-correlated, mixed, and added to its QMF band's column of left and right,
 // four channels at a time.
-mod block;
-mod lanes;
-mod rest;
+mod chains;
+mod mixing;
+mod stretch;
 mod tape;
 mod turn;
 
@@ -13,8 +13,9 @@ ghost use lib.ListN.{length};
 ghost use Rattle.layout.specs.Numbers.{allPassOf};
 ghost use Rattle.standard.specs.Channel.{rotationsOf};
 ghost use Rattle.ps_allpass_channels.specs.Channels.{leftAfter, rightAfter, delaysAfter};
-ghost use Rattle.ps_allpass_channels.specs.Sofar.{Sofar};
-ghost use Rattle.ps_allpass_channels.specs.Turns.{Lent};
+ghost use Rattle.ps_allpass_channels.specs.Sides.{Regions};
+ghost use Rattle.ps_allpass_channels.specs.Sofar.{Turned, Sofar};
+ghost use Rattle.ps_allpass_channels.specs.Turns.{Lent, matrixBy, matrixOf};
 
 fn least(a: usize, b: usize) -> usize
     ensures { λ r. ⌜ r ≡ min a b ⌝ }
@@ -22,90 +23,66 @@ fn least(a: usize, b: usize) -> usize
     if a < b { a } else { b }
 }
 
-// The channels in rising order: fours, and then those that are left. The lists that a turn fills are lent, so that none is built inside a loop.
+// The channels from `first` to before `end` in rising order, four at a time, and then those that are left.
 fn each(
     layout: Layout,
+    first: usize,
+    end: usize,
     map: &[u8; 91],
     table: &[i64],
-    borders: [u8; 4],
+    regions: &[u8; 32],
     count: usize,
     fractions: &[f64; 128],
     samples: &[f64; 3200],
     gains: &[f64; 1088],
     rows: &[f64; 1360],
-    delays: &mut [f64; 1400],
+    delays: &mut [f64],
     slots: usize,
-    runs: &mut [f64; 256],
+    constants: &mut [f64; 44],
+    ways: &mut [f64; 160],
+    ducks: &mut [f64; 128],
     tape: &mut [f64; 1136],
-    decorrelated: &mut [f64; 256],
     lefts: &mut [f64; 256],
     rights: &mut [f64; 256],
-    one_left: &mut [f64; 64],
-    one_right: &mut [f64; 64],
     left: &mut [f64],
     right: &mut [f64],
 )
-    requires { ⌜ Lent layout borders count (now map) (now fractions) slots × (now table ≡ rotationsOf layout) ⌝ }
-    requires { ⌜ (length (now left) ≡ 128 * slots) × (length (now right) ≡ 128 * slots) ⌝ }
-    ensures { λ _. ⌜ Sofar layout borders count (now (samples .entry)) (now (gains .entry)) (now (rows .entry)) slots
-        (now (delays .entry)) (now (left .entry)) (now (right .entry)) (allPassOf layout) (now (delays .exit)) (now (left .exit)) (now (right .exit)) ⌝ }
+    requires { ⌜ (first ≤ end) × (end ≤ allPassOf layout) ⌝ }
+    requires { ⌜ Lent layout (now map) (now table) count slots × (Regions count (now regions) × (length (now delays) ≡ 1400)) ⌝ }
+    ensures { λ _. ⌜ Turned layout (matrixBy (now (regions .entry)) (now (fractions .entry)) count (now (rows .entry))) (now (samples .entry)) (now (gains .entry)) slots
+        first (now (delays .entry)) (now (left .entry)) (now (right .entry)) end (now (delays .exit)) (now (left .exit)) (now (right .exit)) ⌝ }
 {
-    let passes = layout.all_pass();
-    let mut held = 34;
-    let mut k = 0;
-    while k + 4 <= passes {
-        held = block::turn(
+    let mut k = first;
+    while k < end {
+        let lanes = least(4, end - k);
+        turn::turn(
             layout,
             k,
+            lanes,
             map,
             table,
-            borders,
+            regions,
             count,
             fractions,
             samples,
             gains,
             rows,
             delays,
-            held,
-            runs,
-            tape,
-            decorrelated,
             slots,
+            constants,
+            ways,
+            ducks,
+            tape,
             lefts,
             rights,
             left,
             right,
         );
-        k += 4;
-    }
-    if k < passes {
-        rest::turn(
-            layout,
-            k,
-            passes - k,
-            map,
-            table,
-            borders,
-            count,
-            fractions,
-            samples,
-            gains,
-            rows,
-            delays,
-            held,
-            runs,
-            tape,
-            decorrelated,
-            slots,
-            one_left,
-            one_right,
-            left,
-            right,
-        );
+        k += lanes;
     }
 }
 
-// What every channel takes is made once: the map, the fractions, the tape, and room for four channels and for one.
+// What every turn takes is made once. Fours begin anew with the unsplit channels, so that each of theirs is four columns side by side.
 fn frame(
     layout: Layout,
     table: &[i64],
@@ -114,45 +91,72 @@ fn frame(
     samples: &[f64; 3200],
     gains: &[f64; 1088],
     rows: &[f64; 1360],
-    delays: &mut [f64; 1400],
+    delays: &mut [f64],
     slots: usize,
     left: &mut [f64],
     right: &mut [f64],
 )
-    requires { ⌜ now table ≡ rotationsOf layout ⌝ }
+    requires { ⌜ (now table ≡ rotationsOf layout) × (length (now delays) ≡ 1400) ⌝ }
     requires { ⌜ (slots ≤ 32) × ((length (now left) ≡ 128 * slots) × (length (now right) ≡ 128 * slots)) ⌝ }
-    ensures { λ _. ⌜ Sofar layout borders count (now (samples .entry)) (now (gains .entry)) (now (rows .entry)) slots
+    ensures { λ _. ⌜ Sofar layout (matrixOf borders count (now (rows .entry))) (now (samples .entry)) (now (gains .entry)) slots
         (now (delays .entry)) (now (left .entry)) (now (right .entry)) (allPassOf layout) (now (delays .exit)) (now (left .exit)) (now (right .exit)) ⌝ }
 {
     let map = ps_map::parameter_map(layout);
+    let mut regions = [0u8; 32];
     let mut fractions = [0.0f64; 128];
-    let mut runs = [0.0f64; 256];
+    let mut constants = [0.0f64; 44];
+    let mut ways = [0.0f64; 160];
+    let mut ducks = [0.0f64; 128];
     let mut tape = [0.0f64; 1136];
-    let mut decorrelated = [0.0f64; 256];
     let mut lefts = [0.0f64; 256];
     let mut rights = [0.0f64; 256];
-    let mut one_left = [0.0f64; 64];
-    let mut one_right = [0.0f64; 64];
+    ps_stereo_slots::regions(borders, count, &mut regions);
     ps_stereo_slots::fractions(borders, count, &mut fractions);
+    let envelopes = least(count, 4);
+    let unsplit = layout.unsplit_from();
     each(
         layout,
+        0,
+        unsplit,
         &map,
         table,
-        borders,
-        count,
+        &regions,
+        envelopes,
         &fractions,
         samples,
         gains,
         rows,
         delays,
         slots,
-        &mut runs,
+        &mut constants,
+        &mut ways,
+        &mut ducks,
         &mut tape,
-        &mut decorrelated,
         &mut lefts,
         &mut rights,
-        &mut one_left,
-        &mut one_right,
+        left,
+        right,
+    );
+    each(
+        layout,
+        unsplit,
+        layout.all_pass(),
+        &map,
+        table,
+        &regions,
+        envelopes,
+        &fractions,
+        samples,
+        gains,
+        rows,
+        delays,
+        slots,
+        &mut constants,
+        &mut ways,
+        &mut ducks,
+        &mut tape,
+        &mut lefts,
+        &mut rights,
         left,
         right,
     );
@@ -166,13 +170,14 @@ fn rotated(
     samples: &[f64; 3200],
     gains: &[f64; 1088],
     rows: &[f64; 1360],
-    delays: &mut [f64; 1400],
+    delays: &mut [f64],
     slots: usize,
     left: &mut [f64],
     right: &mut [f64],
 )
     requires { ⌜ (slots ≤ 32) × ((length (now left) ≡ 128 * slots) × (length (now right) ≡ 128 * slots)) ⌝ }
-    ensures { λ _. ⌜ Sofar layout borders count (now (samples .entry)) (now (gains .entry)) (now (rows .entry)) slots
+    requires { ⌜ length (now delays) ≡ 1400 ⌝ }
+    ensures { λ _. ⌜ Sofar layout (matrixOf borders count (now (rows .entry))) (now (samples .entry)) (now (gains .entry)) slots
         (now (delays .entry)) (now (left .entry)) (now (right .entry)) (allPassOf layout) (now (delays .exit)) (now (left .exit)) (now (right .exit)) ⌝ }
 {
     match layout {
@@ -211,12 +216,6 @@ fn rotated(
     }
 }
 
-// An array that is lent as a slice tells its length, which no proof knows otherwise.
-fn sized(delays: &[f64])
-    requires { ⌜ length (now delays) ≡ 1400 ⌝ }
-    ensures { λ _. ⌜ length (now (delays .entry)) ≡ 1400 ⌝ }
-{}
-
 // What a frame's channels have in common is lent: samples, ducking factors, the coefficients at the borders, and the memory of every chain.
 pub fn allpass_channels(
     layout: Layout,
@@ -241,7 +240,6 @@ pub fn allpass_channels(
     if right.len() != 128 * within {
         return;
     }
-    sized(delays);
     rotated(
         layout,
         borders,

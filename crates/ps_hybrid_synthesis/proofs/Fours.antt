@@ -13,12 +13,9 @@ use lib.ListN.{length, getD, set, length-set, List·getD-eq-default}
 use lib.Seq.{getD-set-same, getD-set-other}
 use Rattle.complex.specs.declared.Complex.{Complex}
 use Rattle.complex.specs.Operations.{sum}
-use Rattle.lists.specs.Part.{part}
 use Rattle.lists.proofs.Maps.{tabulate-at}
-use Rattle.lists.proofs.Parts.{part-at}
-use Rattle.planar.specs.Cells.{cell}
-use Rattle.planar.proofs.Cells.{by-parts}
-use Rattle.ps_hybrid_synthesis.specs.Column.{numberIn, written, passed}
+use Rattle.ps_hybrid_synthesis.specs.Column.{numberIn, written}
+use Rattle.ps_hybrid_synthesis.specs.Lanes.{on}
 use Rattle.ps_hybrid_synthesis.specs.Loops.{fourPassed, fourSummed}
 use Rattle.ps_hybrid_synthesis.proofs.Columns.{Column, written-length, column-none, column-more, column-all}
 
@@ -143,47 +140,48 @@ four-none runs column old = record { long = refl; are = simp unwritten }
 abbrev slotAt : List Float → ℕ → ℕ → Complex
 slotAt runs i j = record { re = getD runs i nan; im = getD runs j nan }
 
--- slot n of a run that is a part of longer ones
-slot-of : (runs : List Float) (from n i j : ℕ) → n < 32 → i ≡ from + n → j ≡ from + (n + 32) → slotAt runs i j ≡ cell 32 (part from 64 runs) n
-slot-of runs from n i j few e f =
-    rw (e, f) (by-parts (sym (part-at from 64 runs n nan (omega arith))) (sym (part-at from 64 runs (n + 32) nan (omega arith))))
+-- slot n of a lane
+slot-of : (runs : List Float) (lane n i j : ℕ) → i ≡ 8 * n + lane → j ≡ 8 * n + lane + 4 → slotAt runs i j ≡ on lane runs n
+unfolding on
+slot-of runs lane n i j e f = rw (e, f)
 
-module _ (runs : List Float) (n : ℕ) (few : n < 32) where
-  first-slot : slotAt runs n (n + 32) ≡ cell 32 (part 0 64 runs) n
-  first-slot = slot-of runs 0 n n (n + 32) few (omega arith) (omega arith)
+module _ (runs : List Float) (n : ℕ) where
+  first-slot : slotAt runs (8 * n) (8 * n + 4) ≡ on 0 runs n
+  first-slot = slot-of runs 0 n (8 * n) (8 * n + 4) (omega arith) (omega arith)
 
-  second-slot : slotAt runs (n + 64) (n + 96) ≡ cell 32 (part 64 64 runs) n
-  second-slot = slot-of runs 64 n (n + 64) (n + 96) few (omega arith) (omega arith)
+  second-slot : slotAt runs (8 * n + 1) (8 * n + 5) ≡ on 1 runs n
+  second-slot = slot-of runs 1 n (8 * n + 1) (8 * n + 5) (omega arith) (omega arith)
 
-  third-slot : slotAt runs (n + 128) (n + 160) ≡ cell 32 (part 128 64 runs) n
-  third-slot = slot-of runs 128 n (n + 128) (n + 160) few (omega arith) (omega arith)
+  third-slot : slotAt runs (8 * n + 2) (8 * n + 6) ≡ on 2 runs n
+  third-slot = slot-of runs 2 n (8 * n + 2) (8 * n + 6) (omega arith) (omega arith)
 
-  fourth-slot : slotAt runs (n + 192) (n + 224) ≡ cell 32 (part 192 64 runs) n
-  fourth-slot = slot-of runs 192 n (n + 192) (n + 224) few (omega arith) (omega arith)
+  fourth-slot : slotAt runs (8 * n + 3) (8 * n + 7) ≡ on 3 runs n
+  fourth-slot = slot-of runs 3 n (8 * n + 3) (8 * n + 7) (omega arith) (omega arith)
 
 -- the sum of the four, as a turn makes it
 abbrev pub sumFrom : List Float → ℕ → Complex → Complex
-sumFrom runs n from = sum (sum (sum (sum from (slotAt runs n (n + 32))) (slotAt runs (n + 64) (n + 96))) (slotAt runs (n + 128) (n + 160))) (slotAt runs (n + 192) (n + 224))
+sumFrom runs n from =
+    sum (sum (sum (sum from (slotAt runs (8 * n) (8 * n + 4))) (slotAt runs (8 * n + 1) (8 * n + 5))) (slotAt runs (8 * n + 2) (8 * n + 6))) (slotAt runs (8 * n + 3) (8 * n + 7))
 
-pub sum-from : (runs : List Float) (n : ℕ) → n < 32 → (from : Complex) → sumFrom runs n from ≡ fourSummed runs (λ m. sum from (cell 32 (part 0 64 runs) m)) n
-sum-from runs n few from =
-    ap₂ sum (ap₂ sum (ap₂ sum (ap (sum from) (first-slot runs n few)) (second-slot runs n few)) (third-slot runs n few)) (fourth-slot runs n few)
+pub sum-from : (runs : List Float) (n : ℕ) (from : Complex) → sumFrom runs n from ≡ fourSummed runs (λ m. sum from (on 0 runs m)) n
+sum-from runs n from = ap₂ sum (ap₂ sum (ap₂ sum (ap (sum from) (first-slot runs n)) (second-slot runs n)) (third-slot runs n)) (fourth-slot runs n)
 
 module _ {runs : List Float} {column : ℕ} {old : List Float} {n : ℕ} {new : List Float} (r : Four runs column old n new) where
   -- the numbers that a turn stores
   abbrev turned : ℕ → List Float → List Float
   turned at xs =
-      twoStored (at + 6) (at + 7) (slotAt runs (n + 192) (n + 224))
-      (twoStored (at + 4) (at + 5) (slotAt runs (n + 128) (n + 160)) (twoStored (at + 2) (at + 3) (slotAt runs (n + 64) (n + 96)) (twoStored at (at + 1) (slotAt runs n (n + 32)) xs)))
+      twoStored (at + 6) (at + 7) (slotAt runs (8 * n + 3) (8 * n + 7))
+      (twoStored (at + 4) (at + 5) (slotAt runs (8 * n + 2) (8 * n + 6))
+      (twoStored (at + 2) (at + 3) (slotAt runs (8 * n + 1) (8 * n + 5)) (twoStored at (at + 1) (slotAt runs (8 * n) (8 * n + 4)) xs)))
 
-  pub four-turn : column + 3 < 64 → n < 32 → 128 * (n + 1) ≤ length old → (at : ℕ) → at ≡ 128 * n + 2 * column → Four runs column old (n + 1) (turned at new)
+  pub four-turn : column + 3 < 64 → 128 * (n + 1) ≤ length old → (at : ℕ) → at ≡ 128 * n + 2 * column → Four runs column old (n + 1) (turned at new)
   unfolding fourPassed
-  four-turn inside few room at here =
+  four-turn inside room at here =
       record {
         long = simp length-set (r .long);
         are =
             ap (turned at) (r .are)
-            ∙ four-more (passed (part 0 64 runs)) (passed (part 64 64 runs)) (passed (part 128 64 runs)) (passed (part 192 64 runs)) column n old inside room
-            (slotAt runs n (n + 32)) (slotAt runs (n + 64) (n + 96)) (slotAt runs (n + 128) (n + 160)) (slotAt runs (n + 192) (n + 224))
-            (first-slot runs n few) (second-slot runs n few) (third-slot runs n few) (fourth-slot runs n few) at here;
+            ∙ four-more (on 0 runs) (on 1 runs) (on 2 runs) (on 3 runs) column n old inside room
+            (slotAt runs (8 * n) (8 * n + 4)) (slotAt runs (8 * n + 1) (8 * n + 5)) (slotAt runs (8 * n + 2) (8 * n + 6)) (slotAt runs (8 * n + 3) (8 * n + 7))
+            (first-slot runs n) (second-slot runs n) (third-slot runs n) (fourth-slot runs n) at here;
       }

@@ -3,6 +3,7 @@ use mathlib.Core.Path.{_≡_, refl, sym, ap, _∙_}
 use mathlib.Core.Bool.{Bool, true, false, cond, _&&_}
 use mathlib.Core.List.{List}
 use Prim.Native.Nat.{ℕ, _+_, _-_, _*_, _/_, _%_, _<_, _≤_}
+use native.Mathlib.Nat.{add-zero}
 use native.Mathlib.Omega.{arith}
 use borrow.Author.Tests.{lt-ltb, ltb-true, eqb-true}
 use lib.Dec.{eqb, ltb}
@@ -12,13 +13,12 @@ use Rattle.complex.specs.declared.Complex.{Complex}
 use Rattle.complex.specs.Operations.{sum}
 use Rattle.layout.specs.declared.Layout.{Layout}
 use Rattle.layout.specs.Numbers.{splitOf, unsplitFromOf, channelsOf}
-use Rattle.lists.specs.Part.{part}
 use Rattle.lists.specs.Rows.{tabulate}
 use Rattle.lists.proofs.Maps.{tabulate-at, tabulate-same}
-use Rattle.planar.specs.Cells.{cell}
 use Rattle.standard.specs.Hybrid.{bandBelow, spanOf}
 use Rattle.ps_hybrid_synthesis.specs.declared.Band.{Band}
-use Rattle.ps_hybrid_synthesis.specs.Column.{numberIn, written, started, added, column, cellAfter, rowsAfter, fourAfter}
+use Rattle.ps_hybrid_synthesis.specs.Column.{numberIn, written, started, added, column, cellAfter, rowsAfter, lanesAfter}
+use Rattle.ps_hybrid_synthesis.specs.Lanes.{on}
 use Rattle.ps_hybrid_synthesis.specs.Loops.{InBand, oneBand, fourSummed}
 use Rattle.ps_hybrid_synthesis.proofs.Columns.{written-length}
 use Rattle.ps_hybrid_synthesis.proofs.Rising.{written-here}
@@ -48,13 +48,13 @@ written-twice f g h column rows slots same =
     at i u false e = rw e (tabulate-at (numberIn f column rows slots) (length rows) i nan u ∙ rw e)
 
 -- channel j of the band, which is not its first, comes behind those whose values are there
-module _ (l : Layout) (j q : ℕ) (run rows : List Float) (slots : ℕ) (value : ℕ → Complex) where
+module _ (l : Layout) (j q : ℕ) (channel : ℕ → Complex) (rows : List Float) (slots : ℕ) (value : ℕ → Complex) where
   next-added : Spanned l j q → spanOf l q < j → j < unsplitFromOf l → q < 64 → 128 * slots ≤ length rows
-      → rowsAfter l j run (written value q rows slots) slots ≡ written (λ n. sum (value n) (cell 32 run n)) q rows slots
+      → rowsAfter l j channel (written value q rows slots) slots ≡ written (λ n. sum (value n) (channel n)) q rows slots
   next-added s past below small room =
-      sym (as-added l j run (written value q rows slots) slots below band in-band (λ e. omega (arith, past)) ∙ with-both l j run (written value q rows slots) slots channel long)
-      ∙ written-twice value (added run (written value q rows slots) q) (λ n. sum (value n) (cell 32 run n)) q rows slots
-      (λ n u. ap (λ (z : Complex). sum z (cell 32 run n)) (written-here value q rows slots n q small u room refl))
+      sym (as-added l j channel (written value q rows slots) slots below band in-band (λ e. omega (arith, past)) ∙ with-both l j channel (written value q rows slots) slots inside long)
+      ∙ written-twice value (added channel (written value q rows slots) q) (λ n. sum (value n) (channel n)) q rows slots
+      (λ n u. ap (λ (z : Complex). sum z (channel n)) (written-here value q rows slots n q small u room refl))
     where
       band : Band
       band = record { column = q; first = spanOf l q }
@@ -65,8 +65,8 @@ module _ (l : Layout) (j q : ℕ) (run rows : List Float) (slots : ℕ) (value :
       in-band : InBand l j band
       in-band = record { column = sym here; first = ap (spanOf l) (sym here); small = small }
 
-      channel : j < channelsOf l
-      channel = omega (arith, last-channel l, split-few l)
+      inside : j < channelsOf l
+      inside = omega (arith, last-channel l, split-few l)
 
       long : 128 * slots ≤ length (written value q rows slots)
       long = rw written-length room
@@ -102,27 +102,27 @@ module _ (l : Layout) (k : ℕ) (one : oneBand l k ≡ true) where
 
   module _ (band : Band) (b : InBand l k band) (runs rows : List Float) (slots : ℕ) (room : 128 * slots ≤ length rows) where
     -- channel k + i
-    other-added : (i : ℕ) → 0 < i → i < 4 → (run : List Float) (value : ℕ → Complex)
-        → rowsAfter l (k + i) run (written value (band .column) rows slots) slots ≡ written (λ n. sum (value n) (cell 32 run n)) (band .column) rows slots
-    other-added i some few run value =
+    other-added : (i : ℕ) → 0 < i → i < 4 → (channel value : ℕ → Complex)
+        → rowsAfter l (k + i) channel (written value (band .column) rows slots) slots ≡ written (λ n. sum (value n) (channel n)) (band .column) rows slots
+    other-added i some few channel value =
         let from : spanOf l (band .column) ≤ k = rw (b .column) (first-spanned .from) in
-        next-added l (k + i) (band .column) run rows slots value (each-spanned i few (band .column) (b .column)) (omega arith) (omega (arith, all-split)) (b .small) room
+        next-added l (k + i) (band .column) channel rows slots value (each-spanned i few (band .column) (b .column)) (omega arith) (omega (arith, all-split)) (b .small) room
 
-    four-summed : (first : ℕ → Complex) → written first (band .column) rows slots ≡ written (cellAfter l k (part 0 64 runs) rows) (column l k) rows slots
-        → written (fourSummed runs first) (band .column) rows slots ≡ fourAfter l k runs rows slots
-    unfolding fourAfter
+    four-summed : (first : ℕ → Complex) → written first (band .column) rows slots ≡ written (cellAfter l k (on 0 runs) rows) (column l k) rows slots
+        → written (fourSummed runs first) (band .column) rows slots ≡ lanesAfter l k runs rows slots 4
+    unfolding lanesAfter
     four-summed first e =
         sym
-        (ap (λ (xs : List Float). rowsAfter l (k + 3) (part 192 64 runs) xs slots)
-        (ap (λ (xs : List Float). rowsAfter l (k + 2) (part 128 64 runs) xs slots)
-        (ap (λ (xs : List Float). rowsAfter l (k + 1) (part 64 64 runs) xs slots) (sym (e ∙ with-both l k (part 0 64 runs) rows slots first-there room))
-        ∙ other-added 1 (omega arith) (omega arith) (part 64 64 runs) first)
-        ∙ other-added 2 (omega arith) (omega arith) (part 128 64 runs) (λ n. sum (first n) (cell 32 (part 64 64 runs) n)))
-        ∙ other-added 3 (omega arith) (omega arith) (part 192 64 runs) (λ n. sum (sum (first n) (cell 32 (part 64 64 runs) n)) (cell 32 (part 128 64 runs) n)))
+        (ap (λ (xs : List Float). rowsAfter l (k + 3) (on 3 runs) xs slots)
+        (ap (λ (xs : List Float). rowsAfter l (k + 2) (on 2 runs) xs slots)
+        (ap (λ (xs : List Float). rowsAfter l (k + 1) (on 1 runs) xs slots) (rw add-zero (sym (e ∙ with-both l k (on 0 runs) rows slots first-there room)))
+        ∙ other-added 1 (omega arith) (omega arith) (on 1 runs) first)
+        ∙ other-added 2 (omega arith) (omega arith) (on 2 runs) (λ n. sum (first n) (on 1 runs n)))
+        ∙ other-added 3 (omega arith) (omega arith) (on 3 runs) (λ n. sum (sum (first n) (on 1 runs n)) (on 2 runs n)))
 
-    pub four-started : k ≡ band .first → written (fourSummed runs (started (part 0 64 runs))) (band .column) rows slots ≡ fourAfter l k runs rows slots
-    four-started e = four-summed (started (part 0 64 runs)) (as-started l k (part 0 64 runs) rows slots first-split band b e)
+    pub four-started : k ≡ band .first → written (fourSummed runs (started (on 0 runs))) (band .column) rows slots ≡ lanesAfter l k runs rows slots 4
+    four-started e = four-summed (started (on 0 runs)) (as-started l k (on 0 runs) rows slots first-split band b e)
 
     pub four-added : (k ≡ band .first → ⊥)
-        → written (fourSummed runs (added (part 0 64 runs) rows (band .column))) (band .column) rows slots ≡ fourAfter l k runs rows slots
-    four-added n = four-summed (added (part 0 64 runs) rows (band .column)) (as-added l k (part 0 64 runs) rows slots first-split band b n)
+        → written (fourSummed runs (added (on 0 runs) rows (band .column))) (band .column) rows slots ≡ lanesAfter l k runs rows slots 4
+    four-added n = four-summed (added (on 0 runs) rows (band .column)) (as-added l k (on 0 runs) rows slots first-split band b n)

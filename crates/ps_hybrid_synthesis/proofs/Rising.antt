@@ -3,8 +3,8 @@ use mathlib.Core.Path.{_≡_, refl, sym, ap, ap₂, _∙_}
 use mathlib.Core.Logic.{_≢_}
 use mathlib.Core.Bool.{Bool, true, false, _&&_, cond}
 use mathlib.Core.List.{List}
-use Prim.Native.Nat.{ℕ, suc, _+_, _-_, _*_, _/_, _%_, _<_, _≤_}
-use native.Mathlib.Nat.{add-zero}
+use Prim.Native.Nat.{ℕ, zero, suc, _+_, _-_, _*_, _/_, _%_, _<_, _≤_}
+use native.Mathlib.Nat.{add-zero, add-suc}
 use native.Mathlib.Omega.{arith}
 use borrow.Author.Tests.{lt-ltb, eq-eqb, ne-eqb, ltb-true, ltb-false, eqb-true, eqb-false}
 use lib.Dec.{ltb, eqb}
@@ -15,12 +15,12 @@ use Rattle.complex.specs.Operations.{sum}
 use Rattle.layout.specs.declared.Layout.{Layout}
 use Rattle.layout.specs.Numbers.{splitOf, unsplitFromOf, channelsOf}
 use Rattle.lists.proofs.Maps.{tabulate-at}
-use Rattle.planar.specs.Cells.{cell}
 use Rattle.planar.specs.Frame.{qmfAt}
 use Rattle.planar.proofs.Cells.{by-parts}
 use Rattle.standard.specs.Numbers.{nought}
 use Rattle.standard.specs.Hybrid.{spanOf, addedTo}
-use Rattle.ps_hybrid_synthesis.specs.Column.{numberIn, written, passed, started, added, column, cellAfter, rowsAfter}
+use Rattle.ps_hybrid_synthesis.specs.Column.{numberIn, written, started, added, column, cellAfter, rowsAfter, lanesAfter}
+use Rattle.ps_hybrid_synthesis.specs.Lanes.{on}
 use Rattle.ps_hybrid_synthesis.specs.Rising.{columnTo, Risen}
 use Rattle.ps_hybrid_synthesis.proofs.Spans.{Spanned, column-spanned, column-unsplit, column-few, split-within, unsplit-passed, column-untouched, column-other}
 use Rattle.ps_hybrid_synthesis.proofs.Columns.{written-length}
@@ -98,21 +98,21 @@ module _ (l : Layout) (y : ℕ → Complex) (before : Complex) (k : ℕ) where
       ap y (sym back) ∙ sym (unsplit-passed l y before (suc k) (column l k) (omega arith) (omega arith))
 
 -- what the channel leaves in its column
-cell-next : (l : Layout) (y : ℕ → Complex) (before : Complex) (k n : ℕ) (run rows : List Float) → cell 32 run n ≡ y k
-    → qmfAt rows n (column l k) ≡ columnTo l y before k (column l k) → cellAfter l k run rows n ≡ columnTo l y before (suc k) (column l k)
-cell-next l y before k n run rows comes stands = go (ltb k (unsplitFromOf l)) refl (eqb k (spanOf l (column l k))) refl
+cell-next : (l : Layout) (y : ℕ → Complex) (before : Complex) (k n : ℕ) (channel : ℕ → Complex) (rows : List Float) → channel n ≡ y k
+    → qmfAt rows n (column l k) ≡ columnTo l y before k (column l k) → cellAfter l k channel rows n ≡ columnTo l y before (suc k) (column l k)
+cell-next l y before k n channel rows comes stands = go (ltb k (unsplitFromOf l)) refl (eqb k (spanOf l (column l k))) refl
   where
     first : Complex
-    first = started run n
+    first = started channel n
 
     next : Complex
-    next = added run rows (column l k) n
+    next = added channel rows (column l k) n
 
-    chosen : (s : Bool) → ltb k (unsplitFromOf l) ≡ s → (t : Bool) → eqb k (spanOf l (column l k)) ≡ t → cellAfter l k run rows n ≡ cond s (cond t first next) (passed run n)
-    chosen s e t f = ap₂ (λ (a b : Bool). cond a (cond b first next) (passed run n)) e f
+    chosen : (s : Bool) → ltb k (unsplitFromOf l) ≡ s → (t : Bool) → eqb k (spanOf l (column l k)) ≡ t → cellAfter l k channel rows n ≡ cond s (cond t first next) (channel n)
+    chosen s e t f = ap₂ (λ (a b : Bool). cond a (cond b first next) (channel n)) e f
 
     go : (s : Bool) → ltb k (unsplitFromOf l) ≡ s → (t : Bool) → eqb k (spanOf l (column l k)) ≡ t
-        → cellAfter l k run rows n ≡ columnTo l y before (suc k) (column l k)
+        → cellAfter l k channel rows n ≡ columnTo l y before (suc k) (column l k)
     go true e true f =
         chosen true e true f
         ∙ ap (sum nought) comes
@@ -128,23 +128,33 @@ cell-next l y before k n run rows comes stands = go (ltb k (unsplitFromOf l)) re
 pub risen-none : (l : Layout) (y : ℕ → ℕ → Complex) (slots : ℕ) (old : List Float) → Risen l y slots 0 old old
 risen-none l y slots old = record { long = refl; columns = λ n q h u. sym (column-untouched l (y n) (qmfAt old n q) q) }
 
-pub risen-next : (l : Layout) (y : ℕ → ℕ → Complex) (slots k : ℕ) (old new run : List Float) → Risen l y slots k old new → k < channelsOf l → slots ≤ 32 → length old ≡ 128 * slots → ((n : ℕ) → n < slots → cell 32 run n ≡ y n k) → Risen l y slots (suc k) old (rowsAfter l k run new slots)
-risen-next l y slots k old new run r h few size comes =
-    rw (← with-both l k run new slots h room)
-    (record { long = written-length (cellAfter l k run new) (column l k) new slots ∙ r .long; columns = λ n q u b. at n q u b (eqb q (column l k)) refl })
+pub risen-next : (l : Layout) (y : ℕ → ℕ → Complex) (slots k : ℕ) (old new : List Float) (channel : ℕ → Complex) → Risen l y slots k old new → k < channelsOf l → slots ≤ 32 → length old ≡ 128 * slots → ((n : ℕ) → n < slots → channel n ≡ y n k) → Risen l y slots (suc k) old (rowsAfter l k channel new slots)
+risen-next l y slots k old new channel r h few size comes =
+    rw (← with-both l k channel new slots h room)
+    (record { long = written-length (cellAfter l k channel new) (column l k) new slots ∙ r .long; columns = λ n q u b. at n q u b (eqb q (column l k)) refl })
   where
     room : 128 * slots ≤ length new
     room = omega (arith, r .long)
 
     at : (n q : ℕ) → n < slots → q < 64 → (t : Bool) → eqb q (column l k) ≡ t
-        → qmfAt (written (cellAfter l k run new) (column l k) new slots) n q ≡ columnTo l (y n) (qmfAt old n q) (suc k) q
+        → qmfAt (written (cellAfter l k channel new) (column l k) new slots) n q ≡ columnTo l (y n) (qmfAt old n q) (suc k) q
     at n q u b true e =
         let here : q ≡ column l k = eqb-true q (column l k) e in
-        written-here (cellAfter l k run new) (column l k) new slots n q b u room here
-        ∙ cell-next l (y n) (qmfAt old n (column l k)) k n run new (comes n u) (r .columns n (column l k) u (column-few l k h))
+        written-here (cellAfter l k channel new) (column l k) new slots n q b u room here
+        ∙ cell-next l (y n) (qmfAt old n (column l k)) k n channel new (comes n u) (r .columns n (column l k) u (column-few l k h))
         ∙ ap (λ (j : ℕ). columnTo l (y n) (qmfAt old n j) (suc k) j) (sym here)
     at n q u b false e =
         let elsewhere : q ≢ column l k = eqb-false q (column l k) e in
-        written-elsewhere (cellAfter l k run new) (column l k) new slots n q b u room elsewhere
+        written-elsewhere (cellAfter l k channel new) (column l k) new slots n q b u room elsewhere
         ∙ r .columns n q u b
         ∙ column-other l (y n) (qmfAt old n q) k q (λ (same : column l k ≡ q). elsewhere (sym same))
+
+-- channels side by side, one from each lane
+pub risen-lanes : (l : Layout) (y : ℕ → ℕ → Complex) (slots k : ℕ) (old new runs : List Float) (lanes : ℕ) → k + lanes ≤ channelsOf l → slots ≤ 32 → length old ≡ 128 * slots → Risen l y slots k old new
+    → ((j n : ℕ) → j < lanes → n < slots → on j runs n ≡ y n (k + j)) → Risen l y slots (k + lanes) old (lanesAfter l k runs new slots lanes)
+unfolding lanesAfter
+risen-lanes l y slots k old new runs zero last few size r comes = rw add-zero r
+risen-lanes l y slots k old new runs (suc i) last few size r comes =
+    rw add-suc
+    (risen-next l y slots (k + i) old (lanesAfter l k runs new slots i) (on i runs)
+    (risen-lanes l y slots k old new runs i (omega arith) few size r (λ j n u. comes j n (omega arith))) (omega arith) few size (λ n. comes i n (omega arith)))

@@ -1,6 +1,6 @@
 -- §8.6.4.7: a hybrid channel goes into its QMF band's column of the output, whose rows are 64 complex numbers side by side. A split band's channels
 -- come in rising order: the first starts from 0, the others are added. Assumes nothing.
-use Prim.Native.Nat.{ℕ, _+_, _-_, _*_, _/_, _%_}
+use Prim.Native.Nat.{ℕ, zero, suc, _+_, _-_, _*_, _/_, _%_}
 use mathlib.Core.Bool.{Bool, cond, _&&_}
 use mathlib.Core.List.{List}
 use lib.Dec.{eqb, leb, ltb}
@@ -10,11 +10,11 @@ use Rattle.complex.specs.declared.Complex.{Complex}
 use Rattle.complex.specs.Operations.{sum}
 use Rattle.layout.specs.declared.Layout.{Layout}
 use Rattle.layout.specs.Numbers.{splitOf, unsplitFromOf, channelsOf}
-use Rattle.lists.specs.Part.{part}
 use Rattle.lists.specs.Rows.{tabulate}
 use Rattle.planar.specs.Cells.{cell}
 use Rattle.standard.specs.Numbers.{nought}
 use Rattle.standard.specs.Hybrid.{bandBelow, spanOf}
+use Rattle.ps_hybrid_synthesis.specs.Lanes.{on}
 
 -- ---- a column that is written
 
@@ -29,16 +29,13 @@ module _ (value : ℕ → Complex) (column : ℕ) (rows : List Float) where
   unfoldable pub written : ℕ → List Float
   written slots = tabulate (numberIn slots) (length rows)
 
--- the three values: a channel as it is, one that starts from 0, one that is added to what stands there
-module _ (run : List Float) where
-  abbrev pub passed : ℕ → Complex
-  passed n = cell 32 run n
-
+-- the values of a channel that starts from 0, and of one that is added to what stands there
+module _ (channel : ℕ → Complex) where
   abbrev pub started : ℕ → Complex
-  started n = sum nought (cell 32 run n)
+  started n = sum nought (channel n)
 
   abbrev pub added : List Float → ℕ → ℕ → Complex
-  added rows column n = sum (cell 1 rows (128 * n + 2 * column)) (cell 32 run n)
+  added rows column n = sum (cell 1 rows (128 * n + 2 * column)) (channel n)
 
 -- ---- the channels
 
@@ -46,11 +43,11 @@ module _ (run : List Float) where
 abbrev pub column : Layout → ℕ → ℕ
 column l k = cond (ltb k (unsplitFromOf l)) (bandBelow l k (splitOf l - 1)) (k + splitOf l - unsplitFromOf l)
 
-module _ (l : Layout) (k : ℕ) (run rows : List Float) where
+module _ (l : Layout) (k : ℕ) (channel : ℕ → Complex) (rows : List Float) where
   -- what stands in slot n of the column after channel k
   abbrev pub cellAfter : ℕ → Complex
   cellAfter n =
-      cond (ltb k (unsplitFromOf l)) (cond (eqb k (spanOf l (column l k))) (started run n) (added run rows (column l k) n)) (passed run n)
+      cond (ltb k (unsplitFromOf l)) (cond (eqb k (spanOf l (column l k))) (started channel n) (added channel rows (column l k) n)) (channel n)
 
   -- the channel is one of the layout's, and the rows have room for the slots
   abbrev pub there : ℕ → Bool
@@ -59,10 +56,7 @@ module _ (l : Layout) (k : ℕ) (run rows : List Float) where
   unfoldable pub rowsAfter : ℕ → List Float
   rowsAfter slots = cond (there slots) (written cellAfter (column l k) rows slots) rows
 
--- four channels, k to k + 3, one after the other, each from its run of 64 numbers
-unfoldable pub fourAfter : Layout → ℕ → List Float → List Float → ℕ → List Float
-fourAfter l k runs rows slots =
-    rowsAfter l (k + 3) (part 192 64 runs)
-    (rowsAfter l (k + 2) (part 128 64 runs)
-    (rowsAfter l (k + 1) (part 64 64 runs)
-    (rowsAfter l k (part 0 64 runs) rows slots) slots) slots) slots
+-- channels one after the other from k on, each from its lane
+unfoldable pub lanesAfter : Layout → ℕ → List Float → List Float → ℕ → ℕ → List Float
+lanesAfter l k runs rows slots zero = rows
+lanesAfter l k runs rows slots (suc i) = rowsAfter l (k + i) (on i runs) (lanesAfter l k runs rows slots i) slots

@@ -1,3 +1,4 @@
 pub mod Column
+pub mod Lanes
 pub mod Loops
 pub mod Rising

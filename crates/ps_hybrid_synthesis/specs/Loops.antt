@@ -10,11 +10,10 @@ use Rattle.complex.specs.declared.Complex.{Complex}
 use Rattle.complex.specs.Operations.{sum}
 use Rattle.layout.specs.declared.Layout.{Layout}
 use Rattle.layout.specs.Numbers.{splitOf, unsplitFromOf, channelsOf}
-use Rattle.lists.specs.Part.{part}
-use Rattle.planar.specs.Cells.{cell}
 use Rattle.standard.specs.Hybrid.{bandBelow, spanOf}
 use Rattle.ps_hybrid_synthesis.specs.declared.Band.{Band}
-use Rattle.ps_hybrid_synthesis.specs.Column.{written, passed}
+use Rattle.ps_hybrid_synthesis.specs.Column.{written}
+use Rattle.ps_hybrid_synthesis.specs.Lanes.{on}
 
 -- the rows have the column, and the slots
 pub record Room (column slots : ℕ) (rows : List Float) : Type 0 where
@@ -36,14 +35,14 @@ allUnsplit l k = leb (unsplitFromOf l) k && leb (k + 4) (channelsOf l)
 abbrev pub oneBand : Layout → ℕ → Bool
 oneBand l k = ltb (k + 3) (unsplitFromOf l) && eqb (bandBelow l k (splitOf l - 1)) (bandBelow l (k + 3) (splitOf l - 1))
 
--- four columns side by side, each written with its run
+-- four columns side by side, each written with its lane
 unfoldable pub fourPassed : List Float → ℕ → List Float → ℕ → List Float
 fourPassed runs column rows slots =
-    written (passed (part 192 64 runs)) (column + 3)
-    (written (passed (part 128 64 runs)) (column + 2)
-    (written (passed (part 64 64 runs)) (column + 1)
-    (written (passed (part 0 64 runs)) column rows slots) slots) slots) slots
+    written (on 3 runs) (column + 3)
+    (written (on 2 runs) (column + 2)
+    (written (on 1 runs) (column + 1)
+    (written (on 0 runs) column rows slots) slots) slots) slots
 
 -- a slot to which the first of four channels gave a value, with those of the others added
 abbrev pub fourSummed : List Float → (ℕ → Complex) → ℕ → Complex
-fourSummed runs first n = sum (sum (sum (first n) (cell 32 (part 64 64 runs) n)) (cell 32 (part 128 64 runs) n)) (cell 32 (part 192 64 runs) n)
+fourSummed runs first n = sum (sum (sum (first n) (on 1 runs n)) (on 2 runs n)) (on 3 runs n)

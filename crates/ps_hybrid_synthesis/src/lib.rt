@@ -9,7 +9,8 @@ ghost use mathlib.Core.Path.{_≡_};
 ghost use Prim.Native.Nat.{_+_, _-_, _*_, _<_, _≤_, min};
 ghost use lib.ListN.{length};
 ghost use Rattle.layout.specs.Numbers.{channelsOf, splitOf, unsplitFromOf};
-ghost use Rattle.ps_hybrid_synthesis.specs.Column.{written, passed, started, added, column, cellAfter, rowsAfter, fourAfter};
+ghost use Rattle.ps_hybrid_synthesis.specs.Column.{written, started, added, rowsAfter, lanesAfter};
+ghost use Rattle.ps_hybrid_synthesis.specs.Lanes.{on};
 ghost use Rattle.ps_hybrid_synthesis.specs.Loops.{Room, InBand, allUnsplit, oneBand};
 
 // A split QMF band and the first of its channels.
@@ -100,88 +101,87 @@ fn unsplit_column(layout: Layout, k: usize) -> usize
 }
 
 // A channel that is its band.
-fn pass(run: &[f64], column: usize, slots: usize, rows: &mut [f64])
-    requires { ⌜ Room column slots (now rows) ⌝ }
-    requires { ⌜ length (now run) ≡ 64 ⌝ }
-    ensures { λ _. ⌜ now (rows .exit) ≡ written (passed (now (run .entry))) column (now (rows .entry)) slots ⌝ }
+fn pass(runs: &[f64; 256], lane: usize, column: usize, slots: usize, rows: &mut [f64])
+    requires { ⌜ Room column slots (now rows) × (lane < 4) ⌝ }
+    ensures { λ _. ⌜ now (rows .exit) ≡ written (on lane (now (runs .entry))) column (now (rows .entry)) slots ⌝ }
 {
     for n in 0..slots {
         let at = 128 * n + 2 * column;
-        rows[at] = run[n];
-        rows[at + 1] = run[n + 32];
+        let from = 8 * n + lane;
+        rows[at] = runs[from];
+        rows[at + 1] = runs[from + 4];
     }
 }
 
 // The first channel of a split band. The sum with 0 stays: it makes 0 of -0.
-fn start(run: &[f64], column: usize, slots: usize, rows: &mut [f64])
-    requires { ⌜ Room column slots (now rows) ⌝ }
-    requires { ⌜ length (now run) ≡ 64 ⌝ }
-    ensures { λ _. ⌜ now (rows .exit) ≡ written (started (now (run .entry))) column (now (rows .entry)) slots ⌝ }
+fn start(runs: &[f64; 256], lane: usize, column: usize, slots: usize, rows: &mut [f64])
+    requires { ⌜ Room column slots (now rows) × (lane < 4) ⌝ }
+    ensures { λ _. ⌜ now (rows .exit) ≡ written (started (on lane (now (runs .entry)))) column (now (rows .entry)) slots ⌝ }
 {
     for n in 0..slots {
         let at = 128 * n + 2 * column;
-        rows[at] = 0.0 + run[n];
-        rows[at + 1] = 0.0 + run[n + 32];
+        let from = 8 * n + lane;
+        rows[at] = 0.0 + runs[from];
+        rows[at + 1] = 0.0 + runs[from + 4];
     }
 }
 
 // Another channel of a split band.
-fn add(run: &[f64], column: usize, slots: usize, rows: &mut [f64])
-    requires { ⌜ Room column slots (now rows) ⌝ }
-    requires { ⌜ length (now run) ≡ 64 ⌝ }
-    ensures { λ _. ⌜ now (rows .exit) ≡ written (added (now (run .entry)) (now (rows .entry)) column) column (now (rows .entry)) slots ⌝ }
+fn add(runs: &[f64; 256], lane: usize, column: usize, slots: usize, rows: &mut [f64])
+    requires { ⌜ Room column slots (now rows) × (lane < 4) ⌝ }
+    ensures { λ _. ⌜ now (rows .exit) ≡ written (added (on lane (now (runs .entry))) (now (rows .entry)) column) column (now (rows .entry)) slots ⌝ }
 {
     for n in 0..slots {
         let at = 128 * n + 2 * column;
+        let from = 8 * n + lane;
         let re = rows[at];
         let im = rows[at + 1];
-        rows[at] = re + run[n];
-        rows[at + 1] = im + run[n + 32];
+        rows[at] = re + runs[from];
+        rows[at + 1] = im + runs[from + 4];
     }
 }
 
-// A channel of the layout into rows that have room for the slots.
-fn place(layout: Layout, k: usize, run: &[f64], slots: usize, rows: &mut [f64])
+// A channel of the layout, from its lane, into rows that have room for the slots.
+fn place(layout: Layout, k: usize, runs: &[f64; 256], lane: usize, slots: usize, rows: &mut [f64])
     requires { ⌜ (k < channelsOf layout) × ((slots ≤ 32) × (128 * slots ≤ length (now rows))) ⌝ }
-    requires { ⌜ length (now run) ≡ 64 ⌝ }
-    ensures { λ _. ⌜ now (rows .exit) ≡ written (cellAfter layout k (now (run .entry)) (now (rows .entry))) (column layout k) (now (rows .entry)) slots ⌝ }
+    requires { ⌜ lane < 4 ⌝ }
+    ensures { λ _. ⌜ now (rows .exit) ≡ rowsAfter layout k (on lane (now (runs .entry))) (now (rows .entry)) slots ⌝ }
 {
     let unsplit = layout.unsplit_from();
     if unsplit <= k {
         let column = unsplit_column(layout, k);
-        pass(run, column, slots, rows);
+        pass(runs, lane, column, slots, rows);
         return;
     }
     let band = split_band(layout, k);
     let column = band.column;
     let first = band.first;
     if k == first {
-        start(run, column, slots, rows);
+        start(runs, lane, column, slots, rows);
         return;
     }
-    add(run, column, slots, rows);
+    add(runs, lane, column, slots, rows);
 }
 
-// Channel k over at most 32 slots, from its run lent.
-fn channel(layout: Layout, k: usize, run: &[f64], slots: usize, rows: &mut [f64])
-    requires { ⌜ length (now run) ≡ 64 ⌝ }
-    ensures { λ _. ⌜ now (rows .exit) ≡ rowsAfter layout k (now (run .entry)) (now (rows .entry)) (min slots 32) ⌝ }
+// The channels from k on, as many as there are lanes, one after the other.
+fn one_by_one(
+    layout: Layout,
+    k: usize,
+    lanes: usize,
+    runs: &[f64; 256],
+    slots: usize,
+    rows: &mut [f64],
+)
+    requires { ⌜ (k < channelsOf layout) × ((slots ≤ 32) × (128 * slots ≤ length (now rows))) ⌝ }
+    requires { ⌜ lanes ≤ 4 ⌝ }
+    ensures { λ _. ⌜ now (rows .exit) ≡ lanesAfter layout k (now (runs .entry)) (now (rows .entry)) slots lanes ⌝ }
 {
-    if layout.channels() <= k {
-        return;
+    let channels = layout.channels();
+    for lane in 0..lanes {
+        if k + lane < channels {
+            place(layout, k + lane, runs, lane, slots, rows);
+        }
     }
-    let count = least(slots, 32);
-    if rows.len() < 128 * count {
-        return;
-    }
-    place(layout, k, run, count, rows);
-}
-
-// Channel k over at most 32 slots. The channels of a band come in rising order.
-pub fn synthesise(layout: Layout, k: usize, run: &[f64; 64], slots: usize, rows: &mut [f64])
-    ensures { λ _. ⌜ now (rows .exit) ≡ rowsAfter layout k (now (run .entry)) (now (rows .entry)) (min slots 32) ⌝ }
-{
-    channel(layout, k, run, slots, rows);
 }
 
 // The four channels from k on are there, each its own band.
@@ -211,7 +211,7 @@ fn one_band(layout: Layout, k: usize) -> bool
 // Four channels of one split band.
 fn sum_four(layout: Layout, k: usize, runs: &[f64; 256], slots: usize, rows: &mut [f64])
     requires { ⌜ (oneBand layout k ≡ true) × ((slots ≤ 32) × (128 * slots ≤ length (now rows))) ⌝ }
-    ensures { λ _. ⌜ now (rows .exit) ≡ fourAfter layout k (now (runs .entry)) (now (rows .entry)) slots ⌝ }
+    ensures { λ _. ⌜ now (rows .exit) ≡ lanesAfter layout k (now (runs .entry)) (now (rows .entry)) slots 4 ⌝ }
 {
     let band = split_band(layout, k);
     let column = band.column;
@@ -223,21 +223,10 @@ fn sum_four(layout: Layout, k: usize, runs: &[f64; 256], slots: usize, rows: &mu
     four::add(runs, column, slots, rows);
 }
 
-// Four channels one after the other.
-fn one_by_one(layout: Layout, k: usize, runs: &[f64], slots: usize, rows: &mut [f64])
-    requires { ⌜ (k < channelsOf layout) × (length (now runs) ≡ 256) ⌝ }
-    ensures { λ _. ⌜ now (rows .exit) ≡ fourAfter layout k (now (runs .entry)) (now (rows .entry)) (min slots 32) ⌝ }
-{
-    channel(layout, k, &runs[0..64], slots, rows);
-    channel(layout, k + 1, &runs[64..128], slots, rows);
-    channel(layout, k + 2, &runs[128..192], slots, rows);
-    channel(layout, k + 3, &runs[192..256], slots, rows);
-}
-
 // Four channels, of which the first is one of the layout's, into rows that have room for the slots.
 fn place_four(layout: Layout, k: usize, runs: &[f64; 256], slots: usize, rows: &mut [f64])
     requires { ⌜ (k < channelsOf layout) × ((slots ≤ 32) × (128 * slots ≤ length (now rows))) ⌝ }
-    ensures { λ _. ⌜ now (rows .exit) ≡ fourAfter layout k (now (runs .entry)) (now (rows .entry)) slots ⌝ }
+    ensures { λ _. ⌜ now (rows .exit) ≡ lanesAfter layout k (now (runs .entry)) (now (rows .entry)) slots 4 ⌝ }
 {
     if all_unsplit(layout, k) {
         let column = unsplit_column(layout, k);
@@ -248,20 +237,30 @@ fn place_four(layout: Layout, k: usize, runs: &[f64; 256], slots: usize, rows: &
         sum_four(layout, k, runs, slots, rows);
         return;
     }
-    one_by_one(layout, k, runs, slots, rows);
+    one_by_one(layout, k, 4, runs, slots, rows);
 }
 
-// Channels k to k + 3 over at most 32 slots, each from its run. They come behind those below k.
-pub fn synthesise_four(layout: Layout, k: usize, runs: &[f64; 256], slots: usize, rows: &mut [f64])
-    ensures { λ _. ⌜ now (rows .exit) ≡ fourAfter layout k (now (runs .entry)) (now (rows .entry)) (min slots 32) ⌝ }
+// The channels from k on, one from each of at most four lanes, over at most 32 slots. They come behind those below k.
+pub fn synthesise(
+    layout: Layout,
+    k: usize,
+    lanes: usize,
+    runs: &[f64; 256],
+    slots: usize,
+    rows: &mut [f64],
+)
+    ensures { λ _. ⌜ now (rows .exit) ≡ lanesAfter layout k (now (runs .entry)) (now (rows .entry)) (min slots 32) (min lanes 4) ⌝ }
 {
     if layout.channels() <= k {
         return;
     }
     let count = least(slots, 32);
-    let needed = 128 * count;
-    if rows.len() < needed {
+    if rows.len() < 128 * count {
         return;
     }
-    place_four(layout, k, runs, count, rows);
+    if 4 <= lanes {
+        place_four(layout, k, runs, count, rows);
+        return;
+    }
+    one_by_one(layout, k, lanes, runs, count, rows);
 }

@@ -61,7 +61,7 @@ module _ (borders : List ℕ) (m : ℕ) where
     filled-taken n zero u = refl
     filled-taken n (suc e) u = rw (start-taken e (omega arith), getD-take m borders e 0 u, filled-taken n e (omega arith))
 
-    matrix-taken : m ≤ length borders → (n : ℕ) → cond (leb (start borders m) n) (h m) (filledBy borders t h n m) ≡ matrixBy (take m borders) t h n
+    pub matrix-taken : m ≤ length borders → (n : ℕ) → cond (leb (start borders m) n) (h m) (filledBy borders t h n m) ≡ matrixBy (take m borders) t h n
     unfolding matrixBy
     matrix-taken few n =
         let all : length (take m borders) ≡ m = length-take-le m borders few in

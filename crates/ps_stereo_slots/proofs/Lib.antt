@@ -4,3 +4,4 @@ pub mod Filled
 pub mod Borders
 pub mod Reading
 pub mod Interpolating
+pub mod Located

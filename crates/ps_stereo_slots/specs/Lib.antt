@@ -1,3 +1,4 @@
 pub mod Slots
 pub mod Regions
+pub mod Envelopes
 pub mod Coefficients

@@ -5,8 +5,10 @@ ghost use mathlib.Core.Path.{_≡_};
 ghost use Prim.Native.Nat.{_+_, _-_, _*_, _≤_, _<_, min, max};
 ghost use lib.ListN.{length};
 ghost use Rattle.lists.specs.Part.{part};
+ghost use Rattle.lists.specs.Rows.{tabulate};
 ghost use Rattle.planar.specs.Frame.{keptMatrix};
 ghost use Rattle.standard.specs.Interpolation.{fraction};
+ghost use Rattle.ps_stereo_slots.specs.Envelopes.{inRegion, regionBelow, regionOf, regionsOf};
 ghost use Rattle.ps_stereo_slots.specs.Slots.{fractionsAfter, runsAfter};
 ghost use Rattle.ps_stereo_slots.specs.Regions.{stepOf, stepped, storedMatrix, Written, Started, interpolated, filledFractions, heldAfter};
 
@@ -74,6 +76,64 @@ pub fn fractions(borders: [u8; 4], count: usize, out: &mut [f64; 128])
 {
     let envelopes = least(count, 4);
     fill(borders, envelopes, out);
+}
+
+// ---- where a slot lies
+
+// Whether slot n lies in the region of envelope e.
+fn lies_in(borders: [u8; 4], e: usize, n: usize) -> bool
+    requires { ⌜ (e < 4) × (n < 32) ⌝ }
+    ensures { λ r. ⌜ r ≡ inRegion borders e n ⌝ }
+{
+    if (n as u16) < first_slot(borders, e) {
+        return false;
+    }
+    n <= borders[e] as usize
+}
+
+// The last of the first envelopes whose region has slot n.
+fn region_below(borders: [u8; 4], count: usize, n: usize) -> u8
+    requires { ⌜ (count ≤ 4) × (n < 32) ⌝ }
+    ensures { λ r. ⌜ r ≡ regionBelow borders n count ⌝ }
+{
+    let mut e = count;
+    while 0 < e {
+        e -= 1;
+        if lies_in(borders, e, n) {
+            return e as u8;
+        }
+    }
+    0
+}
+
+// The same, or how many envelopes there are where their borders have passed.
+fn region_at(borders: [u8; 4], count: usize, n: usize) -> u8
+    requires { ⌜ (count ≤ 4) × (n < 32) ⌝ }
+    ensures { λ r. ⌜ r ≡ regionOf borders count n ⌝ }
+{
+    if 0 < count {
+        if n <= borders[count - 1] as usize {
+            return region_below(borders, count, n);
+        }
+    }
+    count as u8
+}
+
+fn fill_regions(borders: [u8; 4], count: usize, out: &mut [u8])
+    requires { ⌜ (count ≤ 4) × (length (now out) ≡ 32) ⌝ }
+    ensures { λ _. ⌜ now (out .exit) ≡ tabulate (regionOf borders count) 32 ⌝ }
+{
+    for n in 0..32 {
+        out[n] = region_at(borders, count, n);
+    }
+}
+
+// The region of each slot, the same for every band: made once a frame.
+pub fn regions(borders: [u8; 4], count: usize, out: &mut [u8; 32])
+    ensures { λ _. ⌜ now (out .exit) ≡ regionsOf borders count ⌝ }
+{
+    let used = least(count, 4);
+    fill_regions(borders, used, out);
 }
 
 // ---- coefficients

@@ -229,14 +229,26 @@ pub fn duck(layout: Layout, gains: &[f64; 1088], slots: usize, decorrelated: &mu
     duck_all(layout, gains, slots, decorrelated);
 }
 
+// A channel's run as the first of four lanes.
+fn in_lane(hybrid: &[f64], at: usize) -> [f64; 256]
+    requires { ⌜ at + 64 ≤ length (now hybrid) ⌝ }
+{
+    let mut lanes = [0.0; 256];
+    for n in 0..32 {
+        lanes[8 * n] = hybrid[at + n];
+        lanes[8 * n + 4] = hybrid[at + n + 32];
+    }
+    lanes
+}
+
 // One side's all-pass channels into its QMF rows.
 fn synthesise_all(layout: Layout, hybrid: &[f64], slots: usize, rows: &mut [f64])
     requires { ⌜ length (now hybrid) ≡ 3200 ⌝ }
 {
     let passes = passes_of(layout);
     for k in 0..passes {
-        let run = taken(hybrid, 64 * k);
-        ps_hybrid_synthesis::synthesise(layout, k, &run, slots, rows);
+        let lanes = in_lane(hybrid, 64 * k);
+        ps_hybrid_synthesis::synthesise(layout, k, 1, &lanes, slots, rows);
     }
 }
 

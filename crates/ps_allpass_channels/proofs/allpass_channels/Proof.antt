@@ -21,12 +21,12 @@ right-here c =
 done-here : tie.Need-returns-3
 done-here c =
     let came = c .before .before .before .before in
-    let told = came .before .before .before .before in
-    let fits = told .before .before .before in
+    let lent = came .before .before .before in
+    let fits = lent .before in
     let counted = fits .before .before in
     let s = counted .before .before .before .args in
     all-done (s .layout) (s .borders) (s .count) (s .samples .now) (s .gains .now) (s .rows .now) (s .delays .now) (s .slots) (s .left .now) (s .right .now)
-    (counted .least .result) (counted .least .ensures) (fits .before .if1 .left) (fits .if2 .left) (told .sized .ensures) _ _ _ (came .rotated .ensures)
+    (counted .least .result) (counted .least .ensures) (fits .before .if1 .left) (fits .if2 .left) (lent .rotated-arg .given .0 .1) _ _ _ (came .rotated .ensures)
 
 pub allpass-channels-spec : {M : Type 1} → statement M
 allpass-channels-spec =
@@ -37,7 +37,6 @@ allpass-channels-spec =
     left-here
     (λ c. search needs)
     right-here
-    (λ c κs. search needs)
     (λ c κs. search needs)
     (λ c. search needs)
     (λ c. search needs)

@@ -1,108 +1,94 @@
--- `ps_allpass_channels::each` meets its contract. The loop's invariant: the channels to before k have come, and the runs hold the coefficients of the band
--- that is held. The measure is what is left of the channels. Assumes nothing.
-use Prim.Native.Nat.{ℕ, _+_, _-_, _<_, _≤_}
-use mathlib.Core.Path.{_≡_}
+-- `ps_allpass_channels::each` meets its contract. The loop's invariant: the channels from the first to before k have come. The measure is what is left of
+-- the channels. Assumes nothing.
+use mathlib.Core.Path.{_≡_, refl, _∙_}
+use mathlib.Core.List.{List}
+use Prim.Native.Nat.{ℕ, _+_, _-_, _<_, _≤_, min}
 use native.Mathlib.Omega.{arith}
 use borrow.Author.Needs.{needs}
-use Rattle.layout.specs.Numbers.{allPassOf}
+use lib.Ieee.{Float}
+use lib.ListN.{length}
+use Rattle.layout.specs.declared.Layout.{Layout}
+use Rattle.standard.specs.declared.Matrix.{Matrix}
 use Rattle.ps_allpass_channels.specs.Sofar.{Turned}
-use Rattle.ps_stereo_slots.specs.Coefficients.{Coefficients}
+use Rattle.ps_allpass_channels.specs.Turns.{matrixBy}
 use Rattle.ps_allpass_channels.proofs.Numbers.{all-pass-small}
-use Rattle.ps_allpass_channels.proofs.Sofar.{sofar-none, turned-none, turned-on}
+use Rattle.ps_allpass_channels.proofs.Sofar.{turned-none, turned-on}
 use Rattle.ps_allpass_channels.proofs.each.Statement.{statement}
 use Rattle.ps_allpass_channels.proofs.each.Tie as tie
 
+record Inv (l : Layout) (matrix : ℕ → ℕ → Matrix) (samples gains : List Float) (slots first end : ℕ) (delays₀ left₀ right₀ delays left right : List Float) (k : ℕ) : Type 0 where
+  pub within : k ≤ end
+  pub delays-long : length delays ≡ length delays₀
+  pub left-long : length left ≡ length left₀
+  pub right-long : length right ≡ length right₀
+  pub turned : Turned l matrix samples gains slots first delays₀ left₀ right₀ k delays left right
+
 abbrev Inv-loop : tie.InvT-loop
-Inv-loop layout map table borders count fractions samples gains rows delays₀ slots runs₀ tape₀ decorrelated₀ lefts₀ rights₀ one-left₀ one-right₀ left₀ right₀ passes held₀ k₀ delays runs tape decorrelated lefts rights left right held k =
-    (k ≤ passes)
-    × (Turned layout borders count samples gains rows slots k₀ delays₀ left₀ right₀ k delays left right × Coefficients rows fractions borders count slots held runs)
+Inv-loop layout first end map table regions count fractions samples gains rows delays₀ slots constants₀ ways₀ ducks₀ tape₀ lefts₀ rights₀ left₀ right₀ k₀ delays constants ways ducks tape lefts rights left right k =
+    Inv layout (matrixBy regions fractions count rows) samples gains slots first end delays₀ left₀ right₀ delays left right k
 
 abbrev μ-loop : tie.MeasureT-loop
-μ-loop layout map table borders count fractions samples gains rows delays₀ slots runs₀ tape₀ decorrelated₀ lefts₀ rights₀ one-left₀ one-right₀ left₀ right₀ passes held₀ k₀ delays runs tape decorrelated lefts rights left right held k =
-    passes - k
+μ-loop layout first end map table regions count fractions samples gains rows delays₀ slots constants₀ ways₀ ducks₀ tape₀ lefts₀ rights₀ left₀ right₀ k₀ delays constants ways ducks tape lefts rights left right k =
+    end - k
 
 loop-holds : tie.Need-loop-holds Inv-loop μ-loop
 loop-holds c =
-    let s = c .before .before .before .args in (
-      omega arith,
-      (
-        turned-none (s .layout) (s .borders) (s .count) (s .samples .now) (s .gains .now) (s .rows .now) (s .slots) 0 (s .delays .now) (s .left .now) (s .right .now),
-        record { slot = λ h. absurd (omega arith) },
-      ),
-    )
-
-add-loop : tie.Need-add-loop Inv-loop μ-loop
-add-loop c = omega (arith, c .loop .inv .0, c .before .all-pass .ensures, all-pass-small (c .before .before .before .before .args .layout))
+    let start = c .before .before .before in
+    let s = start .args in
+    record {
+      within = start .pre .0 .0;
+      delays-long = refl;
+      left-long = refl;
+      right-long = refl;
+      turned = turned-none (s .layout) _ (s .samples .now) (s .gains .now) (s .slots) (s .first) (s .delays .now) (s .left .now) (s .right .now);
+    }
 
 turn-requires : tie.Need-turn-requires Inv-loop μ-loop
 turn-requires c κs =
-    let turn = c .before .before .before .before .before .before .before .before in
-    let counted = turn .before .before in
-    ((omega (arith, counted .all-pass .ensures, turn .loop-test .taken), counted .before .before .before .pre .0), turn .before .loop .inv .1 .1)
+    let counted = c .before .before .before .before .before .before .before .before .before in
+    let test = counted .before in
+    let start = test .before .before .before .before .before in (
+      (omega (arith, counted .least .ensures, test .loop-test .taken, start .pre .0 .1), (omega (arith, counted .least .ensures, test .loop-test .taken), omega (arith, counted .least .ensures))),
+      (start .pre .1 .0, (start .pre .1 .1 .0, test .before .loop .inv .delays-long ∙ start .pre .1 .1 .1)),
+    )
 
 add-k : tie.Need-add-k Inv-loop μ-loop
 add-k c =
-    let turn = c .before .before .before .before .before .before .before .before .before .before .before .before .before in
-    let counted = turn .before .before in
-    omega (arith, counted .all-pass .ensures, turn .loop-test .taken, all-pass-small (counted .before .before .before .args .layout))
+    let counted = c .before .before .before .before .before .before .before .before .before .before .before .before .before .before .before .before in
+    let test = counted .before in
+    let start = test .before .before .before .before .before in
+    omega (arith, counted .least .ensures, test .loop-test .taken, start .pre .0 .1, all-pass-small (start .args .layout))
 
 -- channels more leave fewer
-fewer : (k then n : ℕ) → k < then → k < n → n - then < n - k
-fewer k then n more h = omega arith
+fewer : (k lanes n : ℕ) → lanes ≡ min 4 (n - k) → k < n → n - (k + lanes) < n - k
+fewer k lanes n e h = omega arith
 
 loop-less : tie.Need-loop-less Inv-loop μ-loop
 loop-less c =
-    let turn = c .before .before .before .before .before .before .before .before .before .before .before .before .before in
-    fewer (turn .before .loop .k) _ (turn .before .before .all-pass .result) (omega arith) (omega (arith, turn .loop-test .taken))
+    let counted = c .before .before .before .before .before .before .before .before .before .before .before .before .before .before .before .before in
+    let test = counted .before in
+    fewer (test .before .loop .k) (counted .least .result) _ (counted .least .ensures) (test .loop-test .taken)
 
 loop-again : tie.Need-loop-again Inv-loop μ-loop
 loop-again c =
-    let came = c .before .before .before .before in
-    let turn = came .before .before .before .before .before .before .before .before .before in
-    let s = turn .before .before .before .before .before .args in (
-      turn .loop-test .taken,
-      (turned-on (s .layout) (s .borders) (s .count) (s .samples .now) (s .gains .now) (s .rows .now) (s .slots) (turn .before .loop .inv .1 .0) (came .turn .ensures .1), came .turn .ensures .0),
-    )
-
--- ---- the channels that are left
-
-rest-requires : tie.Need-turn-requires-2 Inv-loop μ-loop
-rest-requires c κs =
-    let few = c .before .before .before .before .before .before .before .before in
-    let now = few .before .before .loop in
-    let counted = few .before .before .before in
-    let start = counted .before .before .before in (
-      (
-        omega (arith, few .if1 .taken, counted .all-pass .ensures),
-        (omega (arith, few .if1 .taken), omega (arith, few .before .loop-test .left)),
-      ),
-      (start .pre .0, now .inv .1 .1),
-    )
+    let came = c .before .before .before .before .before .before in
+    let counted = came .before .before .before .before .before .before .before .before .before .before in
+    let test = counted .before in
+    let s = test .before .before .before .before .before .args in
+    let inv = test .before .loop .inv in
+    record {
+      within = omega (arith, counted .least .ensures, test .loop-test .taken);
+      delays-long = came .turn .kept .1 .1 .1 .1 .1 .1 .1 .1 .1 .1 .1 .0 ∙ inv .delays-long;
+      left-long = came .turn .kept .1 .1 .1 .1 .1 .1 .1 .1 .1 .1 .1 .1 .1 .1 .1 .1 .1 .1 .1 .0 ∙ inv .left-long;
+      right-long = came .turn .kept .1 .1 .1 .1 .1 .1 .1 .1 .1 .1 .1 .1 .1 .1 .1 .1 .1 .1 .1 .1 .0 ∙ inv .right-long;
+      turned = turned-on (s .layout) _ (s .samples .now) (s .gains .now) (s .slots) (inv .turned) (came .turn .ensures);
+    }
 
 returns : tie.Need-returns Inv-loop μ-loop
 returns c =
-    let came = c .before .before .before .before in
-    let few = came .before .before .before .before .before .before .before .before .before in
-    let now = few .before .before .loop in
-    let counted = few .before .before .before in
-    let start = counted .before .before .before in
-    let s = start .args in
-    let all : now .k + (counted .all-pass .result - now .k) ≡ allPassOf (s .layout) = omega (arith, few .if1 .taken, counted .all-pass .ensures) in
-    rw all at
-    (turned-on (s .layout) (s .borders) (s .count) (s .samples .now) (s .gains .now) (s .rows .now) (s .slots) (now .inv .1 .0) (came .turn2 .ensures)
-    .next (s .delays .now) (s .left .now) (s .right .now) (start .pre .1 .0) (start .pre .1 .1)
-    (sofar-none (s .layout) (s .borders) (s .count) (s .samples .now) (s .gains .now) (s .rows .now) (s .slots) (s .delays .now) (s .left .now) (s .right .now)))
-
-returns-none : tie.Need-returns-2 Inv-loop μ-loop
-returns-none c =
-    let now = c .before .before .loop in
-    let counted = c .before .before .before in
-    let start = counted .before .before .before in
-    let s = start .args in
-    let all : now .k ≡ allPassOf (s .layout) = omega (arith, now .inv .0, c .if1 .left, counted .all-pass .ensures) in
-    rw all at
-    (now .inv .1 .0 .next (s .delays .now) (s .left .now) (s .right .now) (start .pre .1 .0) (start .pre .1 .1)
-    (sofar-none (s .layout) (s .borders) (s .count) (s .samples .now) (s .gains .now) (s .rows .now) (s .slots) (s .delays .now) (s .left .now) (s .right .now)))
+    let now = c .before .loop in
+    let all : now .k ≡ c .before .before .before .before .before .args .end = omega (arith, now .inv .within, c .loop-test .left) in
+    rw all at (now .inv .turned)
 
 pub each-spec : {M : Type 1} → statement M
 each-spec =
@@ -110,18 +96,14 @@ each-spec =
     (tie.spec
     Inv-loop
     μ-loop
-    (λ c κs. search needs)
     loop-holds
-    add-loop
+    (λ c. omega (arith, c .loop-test .taken))
+    (λ c κs. search needs)
     turn-requires
     add-k
     loop-less
     loop-again
-    (λ c. omega (arith, c .if1 .taken))
-    rest-requires
-    (λ c. returns c .left-rows .long)
-    (λ c. returns c .right-rows .long)
-    returns
-    (λ c. returns-none c .left-rows .long)
-    (λ c. returns-none c .right-rows .long)
-    returns-none)
+    (λ c. c .before .loop .inv .delays-long)
+    (λ c. c .before .loop .inv .left-long)
+    (λ c. c .before .loop .inv .right-long)
+    returns)

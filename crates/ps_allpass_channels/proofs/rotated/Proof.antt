@@ -7,13 +7,15 @@ of-20 : tie.Need-frame-requires
 of-20 c κs =
     let made = c .before .before .before .before in
     let told = made .before in
-    (rw (told .enum-told .given .1) (made .rotations-20 .ensures), told .before .before .before .before .pre)
+    let start = told .before .before .before .before .before in
+    ((rw (told .enum-told .given .1) (made .rotations-20 .ensures), start .pre .1), start .pre .0)
 
 of-34 : tie.Need-frame-requires-2
 of-34 c κs =
     let made = c .before .before .before .before in
     let told = made .before in
-    (rw (told .enum-told2 .given .1) (made .rotations-34 .ensures), told .before .before .before .before .pre)
+    let start = told .before .before .before .before .before in
+    ((rw (told .enum-told2 .given .1) (made .rotations-34 .ensures), start .pre .1), start .pre .0)
 
 pub rotated-spec : {M : Type 1} → statement M
 rotated-spec =
@@ -27,6 +29,8 @@ rotated-spec =
     (λ c κs. search needs)
     (λ c. search needs)
     of-34
+    (λ c. search needs)
+    (λ c. search needs)
     (λ c. search needs)
     (λ c. search needs)
     (λ c. search needs)

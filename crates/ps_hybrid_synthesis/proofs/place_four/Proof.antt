@@ -1,11 +1,9 @@
 -- `ps_hybrid_synthesis::place_four` meets its contract: four columns side by side, one column for the four, or one after the other. Assumes nothing.
-use mathlib.Core.Path.{sym, ap, _∙_}
+use mathlib.Core.Path.{sym, _∙_}
 use Prim.Native.Nat.{_+_, _≤_}
 use native.Mathlib.Omega.{arith}
-use native.Mathlib.Nat.{min-eq-left}
 use borrow.Author.Needs.{needs}
 use Rattle.layout.specs.Numbers.{unsplitFromOf, channelsOf}
-use Rattle.ps_hybrid_synthesis.specs.Column.{fourAfter}
 use Rattle.ps_hybrid_synthesis.proofs.Spans.{last-channel}
 use Rattle.ps_hybrid_synthesis.proofs.WaysOfFour.{both-unsplit, four-unsplit}
 use Rattle.ps_hybrid_synthesis.proofs.place_four.Statement.{statement}
@@ -46,15 +44,8 @@ sum-requires c κs =
     let s = t .before .before .before .before .before in
     (sym (t .before .one-band .ensures) ∙ t .if2 .taken, search needs)
 
-each : tie.Need-returns-3
-each c =
-    let d = c .before .before in
-    let s = d .before .before .before .before .before .before .before .before in
-    let a = s .args in
-    d .one-by-one .ensures ∙ ap (fourAfter (a .layout) (a .k) (a .runs .now) (a .rows .now)) (min-eq-left (s .pre .1 .0))
-
 pub place-four-spec : {M : Type 1} → statement M
 place-four-spec =
     tie.close
     (tie.spec (λ c κs. search needs) column-requires pass-requires (λ c. search needs) passes (λ c κs. search needs) sum-requires (λ c. search needs)
-    (λ c. search needs) (λ c κs. search needs) (λ c. search needs) each)
+    (λ c. search needs) (λ c κs. search needs) (λ c. search needs) (λ c. c .before .before .one-by-one .ensures))

@@ -1,12 +1,12 @@
 -- `ps_hybrid_synthesis::four::add` meets its contract: a turn stores the sum of the four numbers, from what stood in the column. Assumes nothing.
 use mathlib.Core.Path.{ap, _∙_}
-use Prim.Native.Nat.{_<_, _≤_, _-_, _+_, _*_}
+use Prim.Native.Nat.{_≤_, _-_, _+_, _*_}
 use native.Mathlib.Omega.{arith}
 use borrow.Author.Needs.{needs}
 use lib.ListN.{length-set}
-use Rattle.lists.specs.Part.{part}
 use Rattle.planar.specs.Cells.{cell}
 use Rattle.ps_hybrid_synthesis.specs.Column.{added}
+use Rattle.ps_hybrid_synthesis.specs.Lanes.{on}
 use Rattle.ps_hybrid_synthesis.specs.Loops.{fourSummed}
 use Rattle.ps_hybrid_synthesis.proofs.Columns.{Column, column-none, column-ahead, column-more, column-all}
 use Rattle.ps_hybrid_synthesis.proofs.Fours.{sumFrom, sum-from}
@@ -14,7 +14,7 @@ use Rattle.ps_hybrid_synthesis.proofs.four.add.Statement.{statement}
 use Rattle.ps_hybrid_synthesis.proofs.four.add.Tie as tie
 
 abbrev Inv-loop : tie.InvT-loop
-Inv-loop runs column slots rows₀ n₀ rows n = (n ≤ slots) × Column (fourSummed runs (added (part 0 64 runs) rows₀ column)) column rows₀ n rows
+Inv-loop runs column slots rows₀ n₀ rows n = (n ≤ slots) × Column (fourSummed runs (added (on 0 runs) rows₀ column)) column rows₀ n rows
 
 abbrev μ-loop : tie.MeasureT-loop
 μ-loop runs column slots rows₀ n₀ rows n = slots - n
@@ -31,11 +31,10 @@ loop-again c =
     let s = l .before in
     let a = s .args in
     let n = l .loop .n in
-    let stood = column-ahead (l .loop .inv .1) (s .pre .inside) in
-    let few : n < 32 = omega (arith, s .pre .few) in (
+    let stood = column-ahead (l .loop .inv .1) (s .pre .inside) in (
       omega arith,
       column-more (l .loop .inv .1) (s .pre .inside) (sumFrom (a .runs .now) n (cell 1 (l .loop .rows) (128 * n + 2 * a .column)))
-          (ap (sumFrom (a .runs .now) n) stood ∙ sum-from (a .runs .now) n few (cell 1 (a .rows .now) (128 * n + 2 * a .column))) (omega (arith, s .pre .long)),
+          (ap (sumFrom (a .runs .now) n) stood ∙ sum-from (a .runs .now) n (cell 1 (a .rows .now) (128 * n + 2 * a .column))) (omega (arith, s .pre .long)),
     )
 
 returns : tie.Need-returns Inv-loop μ-loop
@@ -44,6 +43,10 @@ returns c = column-all (c .before .loop .inv .1) _ (omega arith)
 pub add-spec : {M : Type 1} → statement M
 add-spec =
     tie.close
-    (tie.spec Inv-loop μ-loop loop-holds
-    (λ c. search needs) (λ c. search needs) (λ c. search needs) (λ c. search needs) (λ c. search needs) (λ c. search needs) (λ c. search needs) (λ c. search needs) (λ c. search needs) (λ c. search needs) (λ c. search needs) (λ c. search needs) (λ c. search needs) (λ c. search needs) (λ c. search needs) (λ c. search needs) (λ c. search needs) (λ c. search needs) (λ c. search needs) (λ c. search needs) (λ c. search needs) (λ c. search needs) (λ c. search needs) (λ c. search needs) (λ c. search needs) (λ c. search needs) (λ c. search needs) (λ c. search needs) (λ c. search needs) (λ c. search needs) (λ c. search needs) (λ c. search needs) (λ c. search needs) (λ c. search needs) (λ c. search needs) second-store
-    (λ c. search needs) (λ c. search needs) loop-again (λ c. search needs) returns)
+    (tie.spec Inv-loop μ-loop loop-holds (λ c. search needs) (λ c. search needs) (λ c. search needs) (λ c. search needs) (λ c. search needs)
+    (λ c. search needs) (λ c. search needs) (λ c. search needs) (λ c. search needs) (λ c. search needs) (λ c. search needs)
+    (λ c. search needs) (λ c. search needs) (λ c. search needs) (λ c. search needs) (λ c. search needs) (λ c. search needs)
+    (λ c. search needs) (λ c. search needs) (λ c. search needs) (λ c. search needs) (λ c. search needs) (λ c. search needs)
+    (λ c. search needs) (λ c. search needs) (λ c. search needs) (λ c. search needs) (λ c. search needs) (λ c. search needs)
+    (λ c. search needs) (λ c. search needs) (λ c. search needs) (λ c. search needs) (λ c. search needs) (λ c. search needs)
+    (λ c. search needs) second-store (λ c. search needs) (λ c. search needs) loop-again (λ c. search needs) returns)

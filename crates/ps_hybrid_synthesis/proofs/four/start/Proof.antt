@@ -3,9 +3,9 @@ use Prim.Native.Nat.{_≤_, _-_}
 use native.Mathlib.Omega.{arith}
 use borrow.Author.Needs.{needs}
 use lib.ListN.{length-set}
-use Rattle.lists.specs.Part.{part}
 use Rattle.standard.specs.Numbers.{nought}
 use Rattle.ps_hybrid_synthesis.specs.Column.{started}
+use Rattle.ps_hybrid_synthesis.specs.Lanes.{on}
 use Rattle.ps_hybrid_synthesis.specs.Loops.{fourSummed}
 use Rattle.ps_hybrid_synthesis.proofs.Columns.{Column, column-none, column-more, column-all}
 use Rattle.ps_hybrid_synthesis.proofs.Fours.{sumFrom, sum-from}
@@ -14,7 +14,7 @@ use Rattle.ps_hybrid_synthesis.proofs.four.start.Statement.{statement}
 use Rattle.ps_hybrid_synthesis.proofs.four.start.Tie as tie
 
 abbrev Inv-loop : tie.InvT-loop
-Inv-loop runs column slots rows₀ n₀ rows n = (n ≤ slots) × Column (fourSummed runs (started (part 0 64 runs))) column rows₀ n rows
+Inv-loop runs column slots rows₀ n₀ rows n = (n ≤ slots) × Column (fourSummed runs (started (on 0 runs))) column rows₀ n rows
 
 abbrev μ-loop : tie.MeasureT-loop
 μ-loop runs column slots rows₀ n₀ rows n = slots - n
@@ -32,7 +32,7 @@ loop-again c =
     let a = s .args in (
       omega arith,
       rw none
-          (column-more (l .loop .inv .1) (s .pre .inside) (sumFrom (a .runs .now) (l .loop .n) nought) (sum-from (a .runs .now) (l .loop .n) (omega (arith, s .pre .few)) nought)
+          (column-more (l .loop .inv .1) (s .pre .inside) (sumFrom (a .runs .now) (l .loop .n) nought) (sum-from (a .runs .now) (l .loop .n) nought)
           (omega (arith, s .pre .long))),
     )
 
@@ -42,6 +42,9 @@ returns c = column-all (c .before .loop .inv .1) _ (omega arith)
 pub start-spec : {M : Type 1} → statement M
 start-spec =
     tie.close
-    (tie.spec Inv-loop μ-loop loop-holds
-    (λ c. search needs) (λ c. search needs) (λ c. search needs) (λ c. search needs) (λ c. search needs) (λ c. search needs) (λ c. search needs) (λ c. search needs) (λ c. search needs) (λ c. search needs) (λ c. search needs) (λ c. search needs) (λ c. search needs) (λ c. search needs) (λ c. search needs) (λ c. search needs) (λ c. search needs) (λ c. search needs) (λ c. search needs) (λ c. search needs) (λ c. search needs) (λ c. search needs) (λ c. search needs) (λ c. search needs) (λ c. search needs) (λ c. search needs) (λ c. search needs) (λ c. search needs) (λ c. search needs) (λ c. search needs) second-store
-    (λ c. search needs) (λ c. search needs) loop-again (λ c. search needs) returns)
+    (tie.spec Inv-loop μ-loop loop-holds (λ c. search needs) (λ c. search needs) (λ c. search needs) (λ c. search needs) (λ c. search needs)
+    (λ c. search needs) (λ c. search needs) (λ c. search needs) (λ c. search needs) (λ c. search needs) (λ c. search needs)
+    (λ c. search needs) (λ c. search needs) (λ c. search needs) (λ c. search needs) (λ c. search needs) (λ c. search needs)
+    (λ c. search needs) (λ c. search needs) (λ c. search needs) (λ c. search needs) (λ c. search needs) (λ c. search needs)
+    (λ c. search needs) (λ c. search needs) (λ c. search needs) (λ c. search needs) (λ c. search needs) (λ c. search needs)
+    (λ c. search needs) (λ c. search needs) second-store (λ c. search needs) (λ c. search needs) loop-again (λ c. search needs) returns)
