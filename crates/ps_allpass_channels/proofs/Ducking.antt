@@ -13,7 +13,7 @@ use Rattle.lists.proofs.Parts.{part-at}
 use Rattle.ps_allpass_channels.specs.Tape.{fourOf}
 use Rattle.ps_allpass_channels.specs.Sides.{duckOn, FourDucks, Ducks}
 use Rattle.ps_allpass_channels.proofs.Fours.{four-is}
-use Rattle.ps_allpass_channels.proofs.Laying.{laid, laid-at, laid-away}
+use Rattle.ps_allpass_channels.proofs.Stored.{storedFrom, stored-apart, stored-there}
 
 module _ (runs : ℕ → List Float) where
   pub ducks-none : (xs : List Float) → FourDucks runs 0 xs
@@ -21,17 +21,16 @@ module _ (runs : ℕ → List Float) where
 
   -- one slot more, its four factors side by side
   pub ducks-more : (v : ℕ → Float) {n : ℕ} {xs : List Float} → FourDucks runs n xs → ((i : ℕ) → i < 4 → v i ≡ getD (runs i) n nan) → 4 * n + 4 ≤ length xs
-      → FourDucks runs (n + 1) (laid 1 (4 * n) v 4 xs)
+      → FourDucks runs (n + 1) (storedFrom (4 * n) 1 v 4 xs)
   ducks-more v {n} {xs} r new room = record { is = λ i m u h. go i m u h (eqb m n) refl }
     where
-      go : (i m : ℕ) → i < 4 → m < n + 1 → (t : Bool) → eqb m n ≡ t → duckOn i (laid 1 (4 * n) v 4 xs) m ≡ getD (runs i) m nan
+      go : (i m : ℕ) → i < 4 → m < n + 1 → (t : Bool) → eqb m n ≡ t → duckOn i (storedFrom (4 * n) 1 v 4 xs) m ≡ getD (runs i) m nan
       go i m u h true s =
           let here : m ≡ n = eqb-true m n s in
-          let place : 4 * n + i ≡ 4 * n + 1 * i = omega arith in
-          rw (here, place) (laid-at 1 (4 * n) v xs (λ a b e. omega arith) 4 i u (λ k w. omega arith) ∙ new i u)
+          rw here (stored-there (4 * n) 1 v xs (λ a b e. omega arith) 4 i (4 * n + i) u (omega arith) (λ k w. omega arith) ∙ new i u)
       go i m u h false s =
           let other : m ≡ n → ⊥ = eqb-false m n s in
-          laid-away 1 (4 * n) v xs 4 (4 * m + i) (λ k w (e : 4 * m + i ≡ 4 * n + 1 * k). other (omega arith)) ∙ r .is i m u (omega arith)
+          stored-apart (4 * n) 1 v xs 4 (4 * m + i) (λ k w (e : 4 * m + i ≡ 4 * n + 1 * k). other (omega arith)) ∙ r .is i m u (omega arith)
 
 -- ---- the bands of the lanes; a lane that is not used has the band of the last one that is
 pub four-bands : (map : List ℕ) (k lanes : ℕ) {a b c d : ℕ} → lanes ≤ 4 → a ≡ getD map k 0 → b ≡ getD map (k + min 1 (lanes - 1)) 0 → c ≡ getD map (k + min 2 (lanes - 1)) 0

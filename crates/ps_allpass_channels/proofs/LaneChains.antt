@@ -1,5 +1,5 @@
 -- The constants of chains side by side: a chain that is put stands in its lane, and the other lanes' chains are as they were. Assumes nothing.
-use mathlib.Core.Path.{_≡_, refl, sym, ap, _∙_}
+use mathlib.Core.Path.{_≡_, refl, _∙_}
 use mathlib.Core.Bool.{Bool, true, false}
 use mathlib.Core.Logic.{_≢_}
 use mathlib.Core.List.{List, [], _∷_}
@@ -16,7 +16,7 @@ use Rattle.standard.specs.declared.Chain.{Chain}
 use Rattle.standard.specs.declared.Link.{Link}
 use Rattle.standard.specs.Channel.{chainFrom}
 use Rattle.ps_allpass_channels.specs.Lanes.{linkOn, chainOn, OtherChains, Constants}
-use Rattle.ps_allpass_channels.proofs.Stored.{placeFrom, placed, storedFrom, stored-apart, stored-there}
+use Rattle.ps_allpass_channels.proofs.Stored.{storedFrom, stored-apart, stored-there}
 
 -- a chain's eleven numbers, in their order
 abbrev pub numbersOf : Chain → List Float
@@ -26,6 +26,9 @@ numbersOf chain =
     ∷ chain .second .rotation .re ∷ chain .second .rotation .im ∷ chain .second .feedback
     ∷ chain .third .rotation .re ∷ chain .third .rotation .im ∷ chain .third .feedback ∷ []
 
+abbrev pub numberOf : Chain → ℕ → Float
+numberOf chain m = getD (numbersOf chain) m nan
+
 link-by : {x y : Link} → x .rotation ≡ y .rotation → x .feedback ≡ y .feedback → x ≡ y
 link-by p q = λ i. record { rotation = p i; feedback = q i }
 
@@ -34,16 +37,13 @@ chain-by p q r s = λ i. record { fractional = p i; first = q i; second = r i; t
 
 module _ (lane : ℕ) (chain : Chain) (xs : List Float) (long : length xs ≡ 44) (few : lane < 4) where
   put-in : List Float
-  put-in = storedFrom (placeFrom lane 4) 0 (numbersOf chain) xs
+  put-in = storedFrom lane 4 (numberOf chain) 11 xs
 
-  there : (i at : ℕ) → i < 11 → at ≡ lane + 4 * (0 + i) → getD put-in at nan ≡ getD (numbersOf chain) i nan
+  there : (i at : ℕ) → i < 11 → at ≡ lane + 4 * i → getD put-in at nan ≡ numberOf chain i
   unfolding put-in
-  there i at u e =
-      ap (λ (m : ℕ). getD (storedFrom (placeFrom lane 4) 0 (numbersOf chain) xs) m nan) (e ∙ sym (placed lane 4 (0 + i)))
-      ∙ stored-there (placeFrom lane 4) (λ q r less (same : placeFrom lane 4 q ≡ placeFrom lane 4 r). omega (arith, placed lane 4 q, placed lane 4 r)) 0
-      (numbersOf chain) xs i u (λ q h. omega (arith, placed lane 4 q))
+  there i at u e = stored-there lane 4 (numberOf chain) xs (λ q r s. omega arith) 11 i at u e (λ q h. omega arith)
 
-  pub chain-put : chainOn lane (storedFrom (placeFrom lane 4) 0 (numbersOf chain) xs) ≡ chain
+  pub chain-put : chainOn lane (storedFrom lane 4 (numberOf chain) 11 xs) ≡ chain
   unfolding chainOn put-in
   chain-put =
       chain-by (by-parts (there 0 lane (omega arith) (omega arith)) (there 1 (lane + 4) (omega arith) (omega arith)))
@@ -58,7 +58,7 @@ module _ (lane : ℕ) (chain : Chain) (xs : List Float) (long : length xs ≡ 44
   module _ (i : ℕ) (u : i < 4) (other : i ≢ lane) where
     apart : (m at : ℕ) → at ≡ i + 4 * m → getD put-in at nan ≡ getD xs at nan
     unfolding put-in
-    apart m at e = stored-apart (placeFrom lane 4) 0 (numbersOf chain) xs at (λ q w h (same : at ≡ placeFrom lane 4 q). other (omega (arith, placed lane 4 q)))
+    apart m at e = stored-apart lane 4 (numberOf chain) xs 11 at (λ q h (same : at ≡ lane + 4 * q). other (omega arith))
 
     link-apart : (m at : ℕ) → at ≡ i + 4 * m → linkOn at put-in ≡ linkOn at xs
     link-apart m at e =
@@ -70,7 +70,7 @@ module _ (lane : ℕ) (chain : Chain) (xs : List Float) (long : length xs ≡ 44
         chain-by (by-parts (apart 0 i (omega arith)) (apart 1 (i + 4) (omega arith))) (link-apart 2 (8 + i) (omega arith))
         (link-apart 5 (20 + i) (omega arith)) (link-apart 8 (32 + i) (omega arith))
 
-  pub chains-apart : OtherChains lane xs (storedFrom (placeFrom lane 4) 0 (numbersOf chain) xs)
+  pub chains-apart : OtherChains lane xs (storedFrom lane 4 (numberOf chain) 11 xs)
   unfolding put-in
   chains-apart = record { same = chain-apart }
 

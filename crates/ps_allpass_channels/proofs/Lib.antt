@@ -8,7 +8,6 @@ pub mod LaneSteps
 pub mod LaneSlots
 pub mod LaneStarts
 pub mod LaneEnds
-pub mod Laying
 pub mod Fours
 pub mod FourSteps
 pub mod Ways

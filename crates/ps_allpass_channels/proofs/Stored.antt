@@ -1,48 +1,59 @@
--- Numbers stored one after the other, each at a place of its own: they stand there afterwards, and all else is as it was. Assumes nothing.
-use mathlib.Core.Path.{_≡_, refl, ap, _∙_}
+-- Numbers stored one after the other, a stride apart: they stand there afterwards, and all else is as it was. Assumes nothing.
+use mathlib.Core.Path.{_≡_, refl, _∙_}
+use mathlib.Core.Bool.{Bool, true, false}
 use mathlib.Core.Logic.{_≢_}
-use mathlib.Core.List.{List, [], _∷_}
-use Prim.Native.Nat.{ℕ, zero, suc, _+_, _*_, _<_, _≤_}
-use native.Mathlib.Nat.{add-zero, mul-zero}
+use mathlib.Core.List.{List}
+use Prim.Native.Nat.{ℕ, zero, suc, _+_, _*_, _<_}
 use native.Mathlib.Omega.{arith}
+use borrow.Author.Tests.{eqb-true, eqb-false}
+use lib.Dec.{eqb}
 use lib.Ieee.{Float, nan}
 use lib.ListN.{length, getD, set, length-set}
 use lib.Seq.{getD-set-same, getD-set-other}
 
--- places that lie equally far apart, the first as the code writes it
+-- the place of number m, the first as the code writes it
 unfoldable pub placeFrom : ℕ → ℕ → ℕ → ℕ
 placeFrom at stride zero = at
-placeFrom at stride (suc q) = at + stride * suc q
+placeFrom at stride (suc m) = at + stride * suc m
 
-pub placed : (at stride q : ℕ) → placeFrom at stride q ≡ at + stride * q
-unfolding placeFrom
-placed at stride zero = rw (mul-zero, add-zero)
-placed at stride (suc q) = refl
+-- the list with the first m numbers stored
+unfoldable pub storedFrom : ℕ → ℕ → (ℕ → Float) → ℕ → List Float → List Float
+storedFrom at stride value zero xs = xs
+storedFrom at stride value (suc m) xs = set (storedFrom at stride value m xs) (placeFrom at stride m) (value m)
 
-module _ (place : ℕ → ℕ) where
-  -- the list with numbers stored from place number p on
-  unfoldable pub storedFrom : ℕ → List Float → List Float → List Float
-  storedFrom p [] xs = xs
-  storedFrom p (v ∷ vs) xs = storedFrom (suc p) vs (set xs (place p) v)
+module _ (at stride : ℕ) (value : ℕ → Float) (xs : List Float) where
+  placed : (m : ℕ) → placeFrom at stride m ≡ at + stride * m
+  unfolding placeFrom
+  placed zero = omega arith
+  placed (suc m) = refl
 
-  pub stored-apart : (p : ℕ) (vs xs : List Float) (j : ℕ) → ((q : ℕ) → p ≤ q → q < p + length vs → j ≢ place q)
-      → getD (storedFrom p vs xs) j nan ≡ getD xs j nan
+  stored-length : (m : ℕ) → length (storedFrom at stride value m xs) ≡ length xs
   unfolding storedFrom
-  stored-apart p [] xs j away = refl
-  stored-apart p (v ∷ vs) xs j away =
-      stored-apart (suc p) vs (set xs (place p) v) j (λ q u w. away q (omega arith) (omega arith))
-      ∙ getD-set-other xs (place p) j v nan (away p (omega arith) (omega arith))
+  stored-length zero = refl
+  stored-length (suc m) = simp length-set (stored-length m)
 
-  module _ (rising : (q r : ℕ) → q < r → place q ≢ place r) where
-    pub stored-there : (p : ℕ) (vs xs : List Float) (i : ℕ) → i < length vs → ((q : ℕ) → q < p + length vs → place q < length xs)
-        → getD (storedFrom p vs xs) (place (p + i)) nan ≡ getD vs i nan
+  pub stored-apart : (m j : ℕ) → ((i : ℕ) → i < m → j ≢ at + stride * i) → getD (storedFrom at stride value m xs) j nan ≡ getD xs j nan
+  unfolding storedFrom
+  stored-apart zero j away = refl
+  stored-apart (suc m) j away =
+      getD-set-other (storedFrom at stride value m xs) (placeFrom at stride m) j (value m) nan (λ (e : j ≡ placeFrom at stride m). away m (omega arith) (e ∙ placed m))
+      ∙ stored-apart m j (λ i u. away i (omega arith))
+
+  -- two numbers have one place only if they are one
+  module _ (own : (i j : ℕ) → stride * i ≡ stride * j → i ≡ j) where
+    pub stored-there : (m i j : ℕ) → i < m → j ≡ at + stride * i → ((k : ℕ) → k < m → at + stride * k < length xs)
+        → getD (storedFrom at stride value m xs) j nan ≡ value i
     unfolding storedFrom
-    stored-there p [] xs i u room = absurd (omega arith)
-    stored-there p (v ∷ vs) xs zero u room =
-        ap (λ (m : ℕ). getD (storedFrom (suc p) vs (set xs (place p) v)) (place m) nan) (add-zero p)
-        ∙ stored-apart (suc p) vs (set xs (place p) v) (place p) (λ q w h. rising p q w)
-        ∙ getD-set-same xs (place p) v nan (room p (omega arith))
-    stored-there p (v ∷ vs) xs (suc i) u room =
-        let further : p + suc i ≡ suc p + i = omega arith in
-        ap (λ (m : ℕ). getD (storedFrom (suc p) vs (set xs (place p) v)) (place m) nan) further
-        ∙ stored-there (suc p) vs (set xs (place p) v) i (omega arith) (λ q h. rw length-set (room q (omega arith)))
+    stored-there zero i j u e room = absurd (omega arith)
+    stored-there (suc m) i j u e room = go (eqb i m) refl (λ (h : i < m). stored-there m i j h e (λ k w. room k (omega arith)))
+      where
+        go : (t : Bool) → eqb i m ≡ t → (i < m → getD (storedFrom at stride value m xs) j nan ≡ value i)
+            → getD (set (storedFrom at stride value m xs) (placeFrom at stride m) (value m)) j nan ≡ value i
+        go true s before =
+            let here : i ≡ m = eqb-true i m s in
+            rw (e, here, placed m) (getD-set-same (storedFrom at stride value m xs) (at + stride * m) (value m) nan (rw (stored-length m) (room m (omega arith))))
+        go false s before =
+            let other : i ≢ m = eqb-false i m s in
+            getD-set-other (storedFrom at stride value m xs) (placeFrom at stride m) j (value m) nan
+            (λ (same : j ≡ placeFrom at stride m). other (own i m (omega (arith, placed m))))
+            ∙ before (omega arith)

@@ -1,5 +1,5 @@
 -- Coefficients in lanes: what the stores into a lane of a border leave, and borders that are laid lane by lane. Assumes nothing.
-use mathlib.Core.Path.{_≡_, refl, ap, _∙_}
+use mathlib.Core.Path.{_≡_, refl, _∙_}
 use mathlib.Core.Bool.{Bool, true, false}
 use mathlib.Core.Logic.{_≢_}
 use mathlib.Core.List.{List}
@@ -15,20 +15,17 @@ use Rattle.planar.proofs.Cells.{by-parts}
 use Rattle.ps_stereo_slots.proofs.Runs.{by-coefficients}
 use Rattle.ps_stereo_slots.specs.Slots.{borderMatrix}
 use Rattle.ps_allpass_channels.specs.Sides.{matrixOn, OtherMatrices, OtherBorders, Border, Ways}
-use Rattle.ps_allpass_channels.proofs.Laying.{laid, laid-at, laid-away}
+use Rattle.ps_allpass_channels.proofs.Stored.{storedFrom, stored-apart, stored-there}
 
 -- ---- a lane of a border
 module _ (numbers : List Float) (e lane : ℕ) (xs : List Float) (few : lane < 4) (room : 32 * e + 32 ≤ length xs) where
   abbrev after : List Float
-  after = laid 4 (32 * e + lane) (λ m. getD numbers m nan) 8 xs
-
-  is-stored : (m : ℕ) → m < 8 → getD after (32 * e + lane + 4 * m) nan ≡ getD numbers m nan
-  is-stored m u = laid-at 4 (32 * e + lane) (λ k. getD numbers k nan) xs (λ i j s. omega arith) 8 m u (λ k h. omega arith)
+  after = storedFrom (32 * e + lane) 4 (λ m. getD numbers m nan) 8 xs
 
   found : (j m : ℕ) → m < 8 → j ≡ 32 * e + lane + 4 * m → getD after j nan ≡ getD numbers m nan
-  found j m u s = ap (λ (k : ℕ). getD after k nan) s ∙ is-stored m u
+  found j m u s = stored-there (32 * e + lane) 4 (λ k. getD numbers k nan) xs (λ i k t. omega arith) 8 m j u s (λ k h. omega arith)
 
-  pub lane-put : matrixOn lane (laid 4 (32 * e + lane) (λ m. getD numbers m nan) 8 xs) e ≡ keptMatrix numbers
+  pub lane-put : matrixOn lane (storedFrom (32 * e + lane) 4 (λ m. getD numbers m nan) 8 xs) e ≡ keptMatrix numbers
   unfolding matrixOn
   lane-put =
       let at = 32 * e + lane in
@@ -38,9 +35,9 @@ module _ (numbers : List Float) (e lane : ℕ) (xs : List Float) (few : lane < 4
       (by-parts (found (at + 24) 6 (omega arith) (omega arith)) (found (at + 24 + 4) 7 (omega arith) (omega arith)))
 
   stays : (j : ℕ) → ((m : ℕ) → m < 8 → j ≢ 32 * e + lane + 4 * m) → getD after j nan ≡ getD xs j nan
-  stays j away = laid-away 4 (32 * e + lane) (λ k. getD numbers k nan) xs 8 j away
+  stays = stored-apart (32 * e + lane) 4 (λ k. getD numbers k nan) xs 8
 
-  pub lanes-stay : OtherMatrices lane e xs (laid 4 (32 * e + lane) (λ m. getD numbers m nan) 8 xs)
+  pub lanes-stay : OtherMatrices lane e xs (storedFrom (32 * e + lane) 4 (λ m. getD numbers m nan) 8 xs)
   unfolding matrixOn
   lanes-stay = record { lanes = lanes; borders = borders }
     where

@@ -1,7 +1,7 @@
 -- `ps_allpass_channels::mixing::lay` meets its contract: each turn lays one slot more of four bands. Assumes nothing.
-use mathlib.Core.Path.{_≡_, refl, _∙_}
+use mathlib.Core.Path.{_≡_, refl}
 use mathlib.Core.List.{List}
-use Prim.Native.Nat.{ℕ, _*_, _-_, _<_, _≤_}
+use Prim.Native.Nat.{ℕ, _-_, _<_, _≤_}
 use native.Mathlib.Omega.{arith}
 use borrow.Author.Needs.{needs}
 use lib.Ieee.{Float, nan}
@@ -10,7 +10,7 @@ use Rattle.ps_allpass_channels.specs.Tape.{fourOf}
 use Rattle.ps_allpass_channels.specs.Sides.{FourDucks}
 use Rattle.ps_allpass_channels.proofs.Ducking.{ducks-none, ducks-more}
 use Rattle.ps_allpass_channels.proofs.Fours.{four-is}
-use Rattle.ps_allpass_channels.proofs.Laying.{placeOf, laid, laid-length}
+use Rattle.ps_allpass_channels.proofs.Stored.{placeFrom, storedFrom}
 use Rattle.ps_allpass_channels.proofs.mixing.lay.Statement.{statement}
 use Rattle.ps_allpass_channels.proofs.mixing.lay.Tie as tie
 
@@ -35,7 +35,7 @@ loop-holds c =
     }
 
 loop-again : tie.Need-loop-again Inv-loop μ-loop
-unfolding fourOf placeOf laid
+unfolding fourOf placeFrom storedFrom
 loop-again c =
     let turn = c .before .before .before .before in
     let l = turn .before .loop in
@@ -46,7 +46,7 @@ loop-again c =
     let runs = fourOf (a .first .now) (a .second .now) (a .third .now) (a .fourth .now) in
     record {
       within = omega arith;
-      long = laid-length 1 (4 * l .n) four (l .out) 4 ∙ l .inv .long;
+      long = simp length-set (l .inv .long);
       laid = ducks-more runs four (l .inv .laid) (four-is (λ i. getD (runs i) (l .n) nan) refl refl refl refl) (omega (arith, more, l .inv .long, start .pre .1 .0));
     }
 

@@ -2,13 +2,13 @@
 use borrow.Author.Needs.{needs}
 use native.Mathlib.Omega.{arith}
 use lib.ListN.{length-set}
-use Rattle.ps_allpass_channels.proofs.Laying.{placeOf, laid}
+use Rattle.ps_allpass_channels.proofs.Stored.{placeFrom, storedFrom}
 use Rattle.ps_allpass_channels.proofs.Ways.{lane-put, lanes-stay}
 use Rattle.ps_allpass_channels.proofs.mixing.put.Statement.{statement}
 use Rattle.ps_allpass_channels.proofs.mixing.put.Tie as tie
 
 returns : tie.Need-returns
-unfolding placeOf laid
+unfolding placeFrom storedFrom
 returns c =
     let start = c .before .before .before .before .before .before .before .before in
     let a = start .args in (

@@ -1,13 +1,15 @@
 -- `ps_allpass_channels::tape::lay` meets its contract: after n turns n slots of all four are laid. Assumes nothing.
-use mathlib.Core.Path.{_≡_}
+use mathlib.Core.Path.{_≡_, refl}
 use mathlib.Core.List.{List}
-use Prim.Native.Nat.{ℕ, _-_, _≤_}
+use Prim.Native.Nat.{ℕ, _+_, _*_, _-_, _≤_}
 use borrow.Author.Needs.{needs}
 use native.Mathlib.Omega.{arith}
 use lib.Ieee.{Float}
 use lib.ListN.{length, length-set}
+use Rattle.planar.specs.Cells.{cell}
 use Rattle.ps_allpass_channels.specs.Tape.{fourOf, Laid}
 use Rattle.ps_allpass_channels.proofs.Stored.{placeFrom, storedFrom}
+use Rattle.ps_allpass_channels.proofs.Fours.{four-is, partsOf, four-put}
 use Rattle.ps_allpass_channels.proofs.LaneLays.{laid-none, laid-more}
 use Rattle.ps_allpass_channels.proofs.tape.lay.Statement.{statement}
 use Rattle.ps_allpass_channels.proofs.tape.lay.Tie as tie
@@ -33,19 +35,22 @@ loop-holds c =
     }
 
 loop-again : tie.Need-loop-again Inv-loop μ-loop
-unfolding placeFrom storedFrom
+unfolding fourOf partsOf placeFrom storedFrom
 loop-again c =
     let turn = c .before .before .before .before .before .before .before .before in
     let l = turn .before .loop in
     let start = turn .before .before in
     let a = start .args in
     let more = turn .loop-test .taken in
+    let four = fourOf (cell 32 (a .first .now) (l .n)) (cell 32 (a .second .now) (l .n)) (cell 32 (a .third .now) (l .n)) (cell 32 (a .fourth .now) (l .n)) in
+    let runs = fourOf (a .first .now) (a .second .now) (a .third .now) (a .fourth .now) in
     record {
       within = omega (arith, more);
       long = simp length-set (l .inv .long);
       laid =
-          laid-more (a .first .now) (a .second .now) (a .third .now) (a .fourth .now) (l .n) (l .inv .laid)
-          (omega (arith, more, start .pre .1 .0, l .inv .long));
+          laid-more runs (l .inv .laid)
+          (four-put (l .n + 2) (8 * l .n + 16) four (l .tape) (omega arith) (omega (arith, more, start .pre .1 .0, l .inv .long)))
+          (four-is (λ i. cell 32 (runs i) (l .n)) refl refl refl refl);
     }
 
 same-length : tie.Need-same-length Inv-loop μ-loop
