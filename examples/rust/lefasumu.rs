@@ -2,7 +2,7 @@
 
 pub const ROW: usize = 128;
 
-unsafe extern "C" {
+extern "C" {
     fn lefasumu_memory() -> usize;
     fn lefasumu_start(memory: *mut f64, memory_length: usize, slots: usize) -> u32;
     fn lefasumu_frame(

@@ -9,8 +9,6 @@ use super::scene;
 use super::scene::FRAMES;
 use super::sound;
 use layout::Layout;
-use ps_decoder::Played;
-use ps_state::PsDecoder;
 ghost use mathlib.Core.Path.{_≡_};
 ghost use Prim.Native.Nat.{min};
 ghost use lib.ListN.{length};
@@ -38,7 +36,7 @@ fn least(a: usize, b: usize) -> usize
 
 // One frame.
 fn play_frame(
-    state: PsDecoder,
+    memory: &mut [f64],
     layout: Layout,
     pair: usize,
     frame: u64,
@@ -47,7 +45,7 @@ fn play_frame(
     columns: u64,
     left: &mut [f64],
     right: &mut [f64],
-) -> Played {
+) -> u32 {
     let seed = chance::branch(chance::branch(1, pair as u64), frame);
     let slots = scene::slots_of(pair);
     let mut text = [0u8; 864];
@@ -56,12 +54,12 @@ fn play_frame(
     let mut input = [0.0; 4864];
     sound::fill(&mut input, columns, frame, run, seed);
     let edge = scene::edge_of(pair, frame);
-    ps_decoder::frame(state, &text[..least(used, 864)], &input, edge, left, right)
+    lefasumu::lefasumu_frame(memory, &text[..least(used, 864)], &input, edge, left, right)
 }
 
 // One frame, into its 4,096 places of both outputs.
 fn play_into(
-    state: PsDecoder,
+    memory: &mut [f64],
     layout: Layout,
     pair: usize,
     frame: u64,
@@ -70,13 +68,13 @@ fn play_into(
     columns: u64,
     left: &mut [f64],
     right: &mut [f64],
-) -> Played
+) -> u32
     requires { ⌜ (length (now left) ≡ 24576) × (length (now right) ≡ 24576) ⌝ }
 {
     let from = (frame % FRAMES * 4096) as usize;
     let end = from + 128 * scene::slots_of(pair);
     play_frame(
-        state,
+        memory,
         layout,
         pair,
         frame,
@@ -96,6 +94,39 @@ fn one_more_if(accepted: bool, count: u64) -> u64 {
     }
 }
 
+// The frames of a run from started memory: how many are accepted.
+fn play_frames(
+    memory: &mut [f64],
+    layout: Layout,
+    pair: usize,
+    run: u64,
+    bands: u64,
+    columns: u64,
+    left: &mut [f64],
+    right: &mut [f64],
+) -> u64
+    requires { ⌜ (length (now left) ≡ 24576) × (length (now right) ≡ 24576) ⌝ }
+{
+    let mut accepted = 0;
+    let mut frame = 0;
+    while frame < FRAMES {
+        let answer = play_into(
+            memory,
+            layout,
+            pair,
+            frame,
+            run,
+            bands,
+            columns,
+            left,
+            right,
+        );
+        accepted = one_more_if(answer == 0, accepted);
+        frame += 1;
+    }
+    accepted
+}
+
 // One run: how many of its frames are accepted.
 fn play_run(
     layout: Layout,
@@ -108,17 +139,11 @@ fn play_run(
 ) -> u64
     requires { ⌜ (length (now left) ≡ 24576) × (length (now right) ≡ 24576) ⌝ }
 {
-    let mut state = ps_state::fresh(scene::slots_of(pair));
-    let mut accepted = 0;
-    let mut frame = 0;
-    while frame < FRAMES {
-        let played = play_into(state, layout, pair, frame, run, bands, columns, left, right);
-        let answer = played.answer;
-        accepted = one_more_if(answer.number() == 0, accepted);
-        state = played.state;
-        frame += 1;
+    let mut memory = [0.0; 2372];
+    if lefasumu::lefasumu_start(&mut memory, scene::slots_of(pair)) != 0 {
+        return 0;
     }
-    accepted
+    play_frames(&mut memory, layout, pair, run, bands, columns, left, right)
 }
 
 fn count(set: u64) -> u64 {

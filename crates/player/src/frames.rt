@@ -5,8 +5,6 @@ use crate::lines;
 use crate::report;
 use crate::report::Tally;
 use crate::rows;
-use ps_decoder::Played;
-use ps_state::PsDecoder;
 ghost use mathlib.Core.Path.{_≡_};
 ghost use Prim.Native.Nat.{_≤_};
 ghost use lib.ListN.{length};
@@ -18,12 +16,11 @@ pub struct Streams {
     pub right: i32,
 }
 
-// What is carried from frame to frame.
+// What is carried from frame to frame, beside the memory that the decoder's state lies in.
 pub struct Run {
     pub streams: Streams,
     pub asked: usize,
     pub edge: usize,
-    pub decoder: PsDecoder,
     pub tally: Tally,
     // How much is held of the line that has begun, and of the next frame's rows.
     pub used: usize,
@@ -41,7 +38,6 @@ pub fn start(streams: Streams, asked: usize, edge: usize) -> Run {
         streams: streams,
         asked: asked,
         edge: edge,
-        decoder: ps_state::fresh(asked),
         tally: Tally {
             frames: 0,
             held: 0,
@@ -67,20 +63,20 @@ fn holds(line: &[u8]) -> bool {
 
 // A frame's call on the first rows of lent memory.
 fn call(
-    decoder: PsDecoder,
+    memory: &mut [f64],
     edge: usize,
     line: &[u8],
     input: &[f64],
     slots: usize,
     left: &mut [f64],
     right: &mut [f64],
-) -> Played
+) -> u32
     requires { ⌜ (slots ≤ 32) × (length (now input) ≡ 4864) × (length (now left) ≡ 4096) × (length (now right) ≡ 4096) ⌝ }
 {
     let numbers = slots * 128;
     let heard = numbers + 768;
-    ps_decoder::frame(
-        decoder,
+    lefasumu::lefasumu_frame(
+        memory,
         line,
         &input[..heard],
         edge,
@@ -100,15 +96,14 @@ fn write_frame(streams: Streams, slots: usize, left: &[f64], right: &[f64]) -> b
     false
 }
 
-// A frame whose rows are there. A call that is not answered with Done leaves its outputs as they were, so that silence is written and the outputs keep time.
-fn play_frame(before: Run, line: &[u8], input: &mut [f64], slots: usize) -> Run
+// A frame whose rows are there. A call that is not answered with 0 leaves its outputs as they were, so that silence is written and the outputs keep time.
+fn play_frame(before: Run, memory: &mut [f64], line: &[u8], input: &mut [f64], slots: usize) -> Run
     requires { ⌜ (slots ≤ 32) × (length (now input) ≡ 4864) ⌝ }
 {
     let mut left = [0.0; 4096];
     let mut right = [0.0; 4096];
-    let decoder = before.decoder;
-    let played = call(
-        decoder,
+    let answer = call(
+        memory,
         before.edge,
         line,
         input,
@@ -116,13 +111,10 @@ fn play_frame(before: Run, line: &[u8], input: &mut [f64], slots: usize) -> Run
         &mut left,
         &mut right,
     );
-    let answer = played.answer;
-    let state = played.state;
     let tally = before.tally;
     report::frame(tally.frames, answer);
     let streams = before.streams;
     let mut after = before;
-    after.decoder = state;
     after.tally = report::tallied(tally, answer, holds(line));
     after.failed = !write_frame(streams, slots, &left, &right);
     rows::carry(input, slots);
@@ -141,7 +133,7 @@ fn begun(before: Run, slots: usize) -> Run {
 }
 
 // One cue line, without its newline. `input` begins with the rows that the frame before looked ahead at.
-fn play_line(before: Run, line: &[u8], input: &mut [f64]) -> Run
+fn play_line(before: Run, memory: &mut [f64], line: &[u8], input: &mut [f64]) -> Run
     requires { ⌜ length (now input) ≡ 4864 ⌝ }
 {
     let slots = borders::slots(before.asked);
@@ -163,19 +155,25 @@ fn play_line(before: Run, line: &[u8], input: &mut [f64]) -> Run
         return run;
     }
     run.ahead = there - slots;
-    play_frame(run, line, input, slots)
+    play_frame(run, memory, line, input, slots)
 }
 
 // The line that has begun is complete.
-pub fn end_line(before: Run, line: &[u8], input: &mut [f64]) -> Run
+pub fn end_line(before: Run, memory: &mut [f64], line: &[u8], input: &mut [f64]) -> Run
     requires { ⌜ length (now input) ≡ 4864 ⌝ }
 {
     let used = arguments::least(before.used, line.len());
-    play_line(before, &line[..used], input)
+    play_line(before, memory, &line[..used], input)
 }
 
 // A piece of the file of lines: the lines that end in it, and the beginning of the next.
-pub fn play_piece(before: Run, line: &mut [u8], input: &mut [f64], piece: &[u8]) -> Run
+pub fn play_piece(
+    before: Run,
+    memory: &mut [f64],
+    line: &mut [u8],
+    input: &mut [f64],
+    piece: &[u8],
+) -> Run
     requires { ⌜ length (now input) ≡ 4864 ⌝ }
 {
     let mut run = before;
@@ -185,7 +183,7 @@ pub fn play_piece(before: Run, line: &mut [u8], input: &mut [f64], piece: &[u8])
         run.used = lines::hold(line, run.used, &piece[from..end]);
         if end < piece.len() {
             from = end + 1;
-            run = end_line(run, line, input);
+            run = end_line(run, memory, line, input);
         } else {
             from = end;
         }

@@ -17,9 +17,11 @@ use libc::STDOUT_FILENO;
 fn play(before: Run) -> Run {
     // A line of more than 864 characters is refused whatever they are, so one more than that is all that is held of it.
     let mut line = [0u8; 865];
+    let mut memory = [0.0; 2372];
     let mut input = [0.0; 4864];
     let mut piece = io::large_buffer();
     let mut run = before;
+    run.failed = lefasumu::lefasumu_start(&mut memory, run.asked) != 0;
     // A proved loop has to end: no file uses up these turns.
     let mut turns = u64::MAX;
     while turns > 0 {
@@ -30,12 +32,12 @@ fn play(before: Run) -> Run {
             run.failed = run.failed | got.failed;
             turns = 0;
         } else {
-            run = frames::play_piece(run, &mut line, &mut input, &piece[..count]);
+            run = frames::play_piece(run, &mut memory, &mut line, &mut input, &piece[..count]);
             turns -= 1;
         }
     }
     if 0 < run.used {
-        run = frames::end_line(run, &line, &mut input);
+        run = frames::end_line(run, &mut memory, &line, &mut input);
     }
     run
 }

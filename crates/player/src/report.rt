@@ -1,5 +1,4 @@
 // What the program says.
-use answer::Answer;
 use libc::STDERR_FILENO;
 use libc::STDOUT_FILENO;
 
@@ -15,15 +14,16 @@ pub fn counted(before: u64) -> u64 {
     std::num::wrapping_add_u64(before, 1)
 }
 
-pub fn tallied(before: Tally, answer: Answer, held: bool) -> Tally {
+// The answers are the numbers of lefasumu.h.
+pub fn tallied(before: Tally, answer: u32, held: bool) -> Tally {
     let mut after = before;
     match answer {
-        Answer::Done => {
+        0 => {
             if held {
                 after.held = counted(before.held);
             }
         }
-        Answer::Quiet => after.quiet = counted(before.quiet),
+        1 => after.quiet = counted(before.quiet),
         _ => after.refused = counted(before.refused),
     }
     after
@@ -37,26 +37,26 @@ fn say_number(n: u64) {
     io::print_decimal(STDOUT_FILENO, n);
 }
 
-fn meaning(answer: Answer) {
+fn meaning(answer: u32) {
     match answer {
-        Answer::Done => say(b"done\n"),
-        Answer::Quiet => say(b"quiet: an empty line before any configuration\n"),
-        Answer::Character => say(b"a character outside 0-9 a-f\n"),
-        Answer::Length => say(b"the line's length\n"),
-        Answer::Field => say(b"a field out of range\n"),
-        Answer::Buffers => say(b"the buffers' lengths\n"),
-        Answer::Sample => say(b"a sample not finite, or above 1048576 in magnitude\n"),
+        0 => say(b"done\n"),
+        1 => say(b"quiet: an empty line before any configuration\n"),
+        2 => say(b"a character outside 0-9 a-f\n"),
+        3 => say(b"the line's length\n"),
+        4 => say(b"a field out of range\n"),
+        5 => say(b"the buffers' lengths\n"),
+        _ => say(b"a sample not finite, or above 1048576 in magnitude\n"),
     }
 }
 
 // A frame that was not played: its number, the answer, and what that means.
-pub fn frame(number: u64, answer: Answer) {
-    if let Answer::Done = answer {
+pub fn frame(number: u64, answer: u32) {
+    if answer == 0 {
         return;
     }
     say_number(number);
     say(b" ");
-    say_number(answer.number() as u64);
+    say_number(answer as u64);
     say(b" ");
     meaning(answer);
 }

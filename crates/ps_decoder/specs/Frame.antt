@@ -17,10 +17,7 @@ callOf line input edge left right = record { line = line; input = input; edge = 
 
 -- the numbers after a call: those of the state that it leaves, or all as they were where it is not accepted
 unfoldable pub decoderAfter : PsDecoder → Call → PsDecoder
-decoderAfter s c =
-    cond (eqb (numberOf (answer (playingOf s) c)) 0)
-    (stored (readied (layout (playingOf s) c) (c .edge) s) (after (playingOf s) c))
-    s
+decoderAfter s c = cond (eqb (numberOf (answer (playingOf s) c)) 0) (stored (readied (layout (playingOf s) c) (c .edge) s) (after (playingOf s) c)) s
 
 -- what a call answers, and the state whose arrays it was lent
 abbrev pub playedOf : Answered → List Float → List Float → List Float → List Float → List Float → Played

@@ -1,5 +1,6 @@
 // Holds the decoder to the Rust, over the stream of runs on standard input (oracle/README.md, "Streams"): every answer, every bit of both outputs of an
-// accepted frame, and that any other call leaves both outputs as they were. It says how many calls are so, or which is the first that is not.
+// accepted frame, and that any other call leaves both outputs as they were. It says how many calls are so, or which is the first that is not. The decoder is
+// the one that C links: its state lies in lent memory.
 mod bytes;
 mod head;
 mod input;
@@ -7,8 +8,6 @@ mod sides;
 mod text;
 
 use head::Head;
-use ps_decoder::Played;
-use ps_state::PsDecoder;
 use text::Place;
 
 // Runs begun, calls of the last of them that are held, and all calls by what they answered.
@@ -22,7 +21,6 @@ struct Counts {
 
 // What is carried from record to record.
 struct Replay {
-    decoder: PsDecoder,
     counts: Counts,
     going: bool,
 }
@@ -39,7 +37,7 @@ fn place_of(counts: Counts) -> Place {
     }
 }
 
-fn counted(counts: Counts, answer: u8) -> Counts {
+fn counted(counts: Counts, answer: u32) -> Counts {
     let mut after = counts;
     after.frames = more(counts.frames);
     if answer == 0 {
@@ -53,19 +51,19 @@ fn counted(counts: Counts, answer: u8) -> Counts {
 }
 
 fn play(
-    decoder: PsDecoder,
+    memory: &mut [f64],
     head: Head,
     line: &[u8],
     input: &[f64],
     left: &mut [f64],
     right: &mut [f64],
-) -> Played {
+) -> u32 {
     let characters = bytes::least(head.line, line.len());
     let numbers = bytes::least(head.input, input.len());
     let left_count = bytes::least(head.left, left.len());
     let right_count = bytes::least(head.right, right.len());
-    ps_decoder::frame(
-        decoder,
+    lefasumu::lefasumu_frame(
+        memory,
         &line[..characters],
         &input[..numbers],
         head.number,
@@ -75,20 +73,21 @@ fn play(
 }
 
 fn play_marked(
-    decoder: PsDecoder,
+    memory: &mut [f64],
     head: Head,
     line: &[u8],
     input: &[f64],
     left: &mut [f64],
     right: &mut [f64],
-) -> Played {
+) -> u32 {
     sides::mark(left);
     sides::mark(right);
-    play(decoder, head, line, input, left, right)
+    play(memory, head, line, input, left, right)
 }
 
 fn call(
     before: Replay,
+    memory: &mut [f64],
     head: Head,
     line: &[u8],
     bytes: &mut [u8],
@@ -96,23 +95,17 @@ fn call(
     left: &mut [f64],
     right: &mut [f64],
 ) -> Replay {
-    let decoder = before.decoder;
     let counts = before.counts;
-    let played = play_marked(decoder, head, line, input, left, right);
-    let answer = played.answer;
-    let number = answer.number();
-    let going = sides::held(place_of(counts), head, number, bytes, left, right);
-    let state = played.state;
+    let answer = play_marked(memory, head, line, input, left, right);
+    let going = sides::held(place_of(counts), head, answer, bytes, left, right);
     Replay {
-        decoder: state,
-        counts: counted(counts, number),
+        counts: counted(counts, answer),
         going: going,
     }
 }
 
 fn started() -> Replay {
     Replay {
-        decoder: ps_state::fresh(0),
         counts: Counts {
             runs: 0,
             frames: 0,
@@ -124,14 +117,14 @@ fn started() -> Replay {
     }
 }
 
-fn begun(before: Replay, asked: usize) -> Replay {
+// A run starts from a fresh decoder.
+fn begun(before: Replay, memory: &mut [f64], asked: usize) -> Replay {
     let mut counts = before.counts;
     counts.runs = more(counts.runs);
     counts.frames = 0;
     Replay {
-        decoder: ps_state::fresh(asked),
         counts: counts,
-        going: true,
+        going: lefasumu::lefasumu_start(memory, asked) == 0,
     }
 }
 
@@ -153,12 +146,12 @@ fn broken(before: Replay) -> Replay {
 }
 
 // A record that is no call: the end, or the start of a run.
-fn step_between(before: Replay, head: Head) -> Replay {
+fn step_between(before: Replay, memory: &mut [f64], head: Head) -> Replay {
     if head.kind == 0 {
         return ended(before);
     }
     if head.kind == 1 {
-        return begun(before, head.number);
+        return begun(before, memory, head.number);
     }
     broken(before)
 }
@@ -166,6 +159,7 @@ fn step_between(before: Replay, head: Head) -> Replay {
 // A call with what it hands in, which stands behind its head.
 fn step_call(
     before: Replay,
+    memory: &mut [f64],
     head: Head,
     line: &mut [u8],
     bytes: &mut [u8],
@@ -179,12 +173,13 @@ fn step_call(
     if !input::load(head, line, bytes, input) {
         return broken(before);
     }
-    call(before, head, line, bytes, input, left, right)
+    call(before, memory, head, line, bytes, input, left, right)
 }
 
 // One record of the stream.
 fn step(
     before: Replay,
+    memory: &mut [f64],
     line: &mut [u8],
     bytes: &mut [u8],
     input: &mut [f64],
@@ -193,12 +188,13 @@ fn step(
 ) -> Replay {
     let head = input::next_head(bytes);
     if head.kind == 2 {
-        return step_call(before, head, line, bytes, input, left, right);
+        return step_call(before, memory, head, line, bytes, input, left, right);
     }
-    step_between(before, head)
+    step_between(before, memory, head)
 }
 
 fn main() {
+    let mut memory = [0.0; 2372];
     let mut line = [0u8; 2048];
     let mut bytes = [0u8; 67584];
     let mut input = [0.0; 5632];
@@ -210,6 +206,7 @@ fn main() {
     while turns > 0 {
         replay = step(
             replay,
+            &mut memory,
             &mut line,
             &mut bytes,
             &mut input,

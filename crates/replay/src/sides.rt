@@ -80,13 +80,14 @@ fn same(at: Place, word: &[u8], side: &[f64], count: usize, wanted: &mut [u8]) -
 pub fn held(
     at: Place,
     head: Head,
-    answer: u8,
+    answer: u32,
     bytes: &mut [u8],
     left: &[f64],
     right: &[f64],
 ) -> bool {
-    if answer != head.answer {
-        text::answers(at, answer, head.answer);
+    let wanted = head.answer as u32;
+    if answer != wanted {
+        text::answers(at, answer, wanted);
         return false;
     }
     if answer != 0 {

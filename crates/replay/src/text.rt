@@ -31,7 +31,7 @@ pub fn broken(at: Place) {
     say(b": the stream breaks off, or has a record that it cannot have\n");
 }
 
-pub fn answers(at: Place, answer: u8, wanted: u8) {
+pub fn answers(at: Place, answer: u32, wanted: u32) {
     say_place(at);
     say(b": answer ");
     say_number(answer as u64);

@@ -8,18 +8,19 @@ use Rattle.player.proofs.play.Statement.{statement}
 use Rattle.player.proofs.play.Tie as tie
 
 abbrev Inv-loop : tie.InvT-loop
-Inv-loop line₀ input₀ piece₀ run₀ turns₀ line input piece run turns = (865 ≡ length line) × (4864 ≡ length input) × (65536 ≡ length piece)
+Inv-loop line₀ memory₀ input₀ piece₀ run₀ turns₀ line memory input piece run turns = (865 ≡ length line) × (4864 ≡ length input) × (65536 ≡ length piece) × (2372 ≡ length memory)
 
 abbrev μ-loop : tie.MeasureT-loop
-μ-loop line₀ input₀ piece₀ run₀ turns₀ line input piece run turns = turns
+μ-loop line₀ memory₀ input₀ piece₀ run₀ turns₀ line memory input piece run turns = turns
 
-slice-aggregate-play-piece-3 : tie.Need-slice-aggregate-play-piece-3 Inv-loop μ-loop
-slice-aggregate-play-piece-3 c = sym (length-take-le _ _ (omega arith))
+slice-aggregate-play-piece-4 : tie.Need-slice-aggregate-play-piece-4 Inv-loop μ-loop
+slice-aggregate-play-piece-4 c = sym (length-take-le _ _ (omega arith))
 
 pub play-spec : {M : Type 1} → statement M
 play-spec =
     tie.close
-    (tie.spec Inv-loop μ-loop (λ c κs. search needs) (λ c. search needs) (λ c. search needs) (λ c κs. search needs) (λ c. search needs)
-    (λ c. search needs) (λ c. search needs) (λ c. search needs) (λ c. search needs) slice-aggregate-play-piece-3 (λ c κs. search needs)
-    (λ c. search needs) (λ c. search needs) (λ c. search needs) (λ c. search needs) (λ c. search needs) (λ c κs. search needs) (λ c. search needs)
+    (tie.spec Inv-loop μ-loop (λ c κs. search needs) (λ c. search needs) (λ c κs. search needs) (λ c. search needs)
+    (λ c. search needs) (λ c κs. search needs) (λ c. search needs) (λ c. search needs) (λ c. search needs) (λ c. search needs)
+    (λ c. search needs) (λ c. search needs) slice-aggregate-play-piece-4 (λ c κs. search needs) (λ c. search needs) (λ c. search needs)
+    (λ c. search needs) (λ c. search needs) (λ c. search needs) (λ c. search needs) (λ c κs. search needs) (λ c. search needs)
     (λ c. search needs))

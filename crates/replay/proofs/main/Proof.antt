@@ -6,14 +6,14 @@ use Rattle.replay.proofs.main.Statement.{statement}
 use Rattle.replay.proofs.main.Tie as tie
 
 abbrev Inv-loop : tie.InvT-loop
-Inv-loop line₀ bytes₀ input₀ left₀ right₀ replay₀ turns₀ line bytes input left right replay turns =
-    (2048 ≡ length line) × (67584 ≡ length bytes) × (5632 ≡ length input) × (4352 ≡ length left) × (4352 ≡ length right)
+Inv-loop memory₀ line₀ bytes₀ input₀ left₀ right₀ replay₀ turns₀ memory line bytes input left right replay turns =
+    (2372 ≡ length memory) × (2048 ≡ length line) × (67584 ≡ length bytes) × (5632 ≡ length input) × (4352 ≡ length left) × (4352 ≡ length right)
 
 abbrev μ-loop : tie.MeasureT-loop
-μ-loop line₀ bytes₀ input₀ left₀ right₀ replay₀ turns₀ line bytes input left right replay turns = turns
+μ-loop memory₀ line₀ bytes₀ input₀ left₀ right₀ replay₀ turns₀ memory line bytes input left right replay turns = turns
 
 pub main-spec : {M : Type 1} → statement M
 main-spec =
     tie.close
-    (tie.spec Inv-loop μ-loop (λ c κs. search needs) (λ c. search needs) (λ c. search needs) (λ c. search needs) (λ c. search needs) (λ c. search needs) (λ c. search needs) (λ c κs. search needs)
-    (λ c. search needs) (λ c. search needs) (λ c. search needs) (λ c. search needs) (λ c. search needs) (λ c. search needs))
+    (tie.spec Inv-loop μ-loop (λ c κs. search needs) (λ c. search needs) (λ c. search needs) (λ c. search needs) (λ c. search needs) (λ c. search needs) (λ c. search needs)
+    (λ c. search needs) (λ c κs. search needs) (λ c. search needs) (λ c. search needs) (λ c. search needs) (λ c. search needs) (λ c. search needs) (λ c. search needs))

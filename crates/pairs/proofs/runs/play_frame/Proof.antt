@@ -6,7 +6,7 @@ use lib.ListN.{length}
 use Rattle.pairs.proofs.runs.play_frame.Statement.{statement}
 use Rattle.pairs.proofs.runs.play_frame.Tie as tie
 
-slice-aggregate-frame : tie.Need-slice-aggregate-frame
+slice-aggregate-frame : tie.Need-slice-aggregate-lefasumu-frame
 slice-aggregate-frame c = sym (length-take-le _ _ (search needs))
 
 pub play-frame-spec : {M : Type 1} → statement M
@@ -14,4 +14,4 @@ play-frame-spec =
     tie.close
     (tie.spec (λ c κs. search needs) (λ c κs. search needs) (λ c κs. search needs) (λ c. search needs) (λ c κs. search needs) (λ c. search needs)
     (λ c κs. search needs) (λ c κs. search needs) (λ c κs. search needs) (λ c. search needs) slice-aggregate-frame (λ c. search needs)
-    (λ c κs. search needs) (λ c. search needs) (λ c. search needs) (λ c. search needs))
+    (λ c κs. search needs) (λ c. search needs) (λ c. search needs) (λ c. search needs) (λ c. search needs))
