@@ -1,18 +1,22 @@
 /* Lefasumu, a parametric-stereo decoder (ISO/IEC 14496-3, 8.6.4), for C and C++.
  *
- * A decoder's whole state lies in memory that the caller lends, lefasumu_memory() doubles. Nothing else is kept between calls: nothing is
+ * A decoder's whole state lies in memory that the caller lends, LEFASUMU_MEMORY doubles. Nothing else is kept between calls: nothing is
  * allocated, and a decoder is copied by copying its memory. Many decoders, each with its own memory, may run at once.
  *
- *     double *memory = malloc(lefasumu_memory() * sizeof *memory);
- *     lefasumu_start(memory, lefasumu_memory(), 32);
- *     answer = lefasumu_frame(memory, lefasumu_memory(), line, line_length, input, input_length, edge,
+ *     static double memory[LEFASUMU_MEMORY];
+ *     lefasumu_start(memory, LEFASUMU_MEMORY, 32);
+ *     answer = lefasumu_frame(memory, LEFASUMU_MEMORY, line, line_length, input, input_length, edge,
  *                             left, left_length, right, right_length);
  *
  * A pointer and the length after it say one buffer, a length in elements and not in bytes. Where the length is not 0, the pointer is to that
  * many elements. The buffers that a call writes (memory, left, right) overlap no other buffer of that call.
  *
- * Answers (document 01). After 0 the frame is done: both outputs are filled, and the memory holds the state after it. After any other answer
- * every buffer is as it was, the memory too.
+ * After answer 0 the frame is done: both outputs are filled, and the memory holds the state after it. After any other answer every buffer is
+ * as it was, the memory too.
+ *
+ * What a call assumes: IEEE 754 doubles, rounding to nearest, subnormals kept. In another rounding mode, or where subnormals are flushed to
+ * zero, as audio hosts often set it, bits change, and the proofs do not speak of it. A frame call needs up to 128 KiB of stack;
+ * docs/C-API.md has what was measured for each archive.
  */
 #ifndef LEFASUMU_H
 #define LEFASUMU_H
@@ -23,6 +27,12 @@
 #ifdef __cplusplus
 extern "C" {
 #endif
+
+/* The version of this interface. */
+#define LEFASUMU_VERSION "0.1.0"
+
+/* How many doubles the memory of a decoder has, for a static array. lefasumu_memory() says the same. */
+#define LEFASUMU_MEMORY 2372
 
 /* Frame done, or memory started. */
 #define LEFASUMU_DONE 0u
@@ -39,7 +49,7 @@ extern "C" {
 /* A sample of the input that the frame reads is not finite, or above 1,048,576 in magnitude. */
 #define LEFASUMU_SAMPLE 6u
 
-/* How many doubles the memory of a decoder has: always the same number, 2,372. */
+/* How many doubles the memory of a decoder has: always LEFASUMU_MEMORY. */
 size_t lefasumu_memory(void);
 
 /* Makes memory that of a fresh decoder for an asked number of slots, which acts as 6 to 32; whatever the memory held, it is written whole.

@@ -1,10 +1,10 @@
-/* Plays three frames through the face for C: one with cues, one that holds them, and one whose line is damaged. */
+/* Plays three frames through the C API: one with cues, one that holds them, and one whose line is damaged. */
 #include "../../lefasumu.h"
 
 #include <stdio.h>
 #include <string.h>
 
-enum { SLOTS = 8, ROW = 128, NUMBERS = 2372 };
+enum { SLOTS = 8, ROW = 128, NUMBERS = LEFASUMU_MEMORY };
 
 static double memory[NUMBERS], input[(SLOTS + 6) * ROW], left[SLOTS * ROW], right[SLOTS * ROW];
 

@@ -1,4 +1,4 @@
-//! Lefasumu from Rust: the face for C, and a decoder that owns its memory and outputs.
+//! Lefasumu from Rust: the C API, and a decoder that owns its memory and outputs.
 
 pub const ROW: usize = 128;
 
@@ -27,15 +27,16 @@ pub struct Decoder {
 }
 
 impl Decoder {
-    /// A decoder for 6 to 32 slots a frame.
-    pub fn start(slots: usize) -> Self {
+    /// A decoder for an asked number of slots a frame, which acts as 6 to 32.
+    pub fn start(asked: usize) -> Self {
+        let slots = asked.clamp(6, 32);
         let mut memory = vec![0.0; unsafe { lefasumu_memory() }];
         let answer = unsafe { lefasumu_start(memory.as_mut_ptr(), memory.len(), slots) };
         assert_eq!(answer, 0, "memory of the right length");
         Decoder { memory, left: vec![0.0; slots * ROW], right: vec![0.0; slots * ROW] }
     }
 
-    /// A frame; its answer is document 01's number.
+    /// A frame; its answer is one of the numbers of lefasumu.h.
     pub fn frame(&mut self, line: &[u8], input: &[f64], edge: usize) -> u32 {
         unsafe {
             lefasumu_frame(

@@ -1,4 +1,4 @@
-/* Gets every answer of lefasumu.h from the library, and holds the header's numbers to what the calls return. Compiled as C and as C++. */
+/* Gets every answer of lefasumu.h from the library, and compares the header's numbers with what the calls return. Compiled as C and as C++. */
 #include "../../lefasumu.h"
 
 #include <stdio.h>
@@ -6,7 +6,7 @@
 
 #define SLOTS 6
 #define ROW 128
-#define NUMBERS 2372
+#define NUMBERS LEFASUMU_MEMORY
 #define HEARD ((SLOTS + 6) * ROW)
 #define WRITTEN (SLOTS * ROW)
 

@@ -3,6 +3,7 @@
 mod text;
 
 use cue::Line;
+use libc::STDERR_FILENO;
 use libc::STDIN_FILENO;
 use libc::STDOUT_FILENO;
 use ps_data::PsIndexState;
@@ -10,18 +11,20 @@ use ps_data::PsIndices;
 ghost use Prim.Native.Nat.{_≤_};
 ghost use lib.ListN.{length};
 
-// What is carried from line to line: the decoder's part, the number of the last line, and how much is held of the line that has begun.
+// What is carried from line to line: the decoder's part, the number of the last line, how much is held of the line that has begun, and whether all was
+// written so far.
 struct Listing {
     state: PsIndexState,
     configured: bool,
     number: u64,
     used: usize,
+    written: bool,
 }
 
-fn write_line(number: u64, answer: u8, indices: PsIndices) {
+fn write_line(number: u64, answer: u8, indices: PsIndices) -> bool {
     let mut out = [0u8; 4096];
     let used = text::put_line(&mut out, number, answer, indices);
-    io::write_all(STDOUT_FILENO, &out[..used]);
+    io::write_all(STDOUT_FILENO, &out[..used])
 }
 
 // One line of the input, without its newline.
@@ -33,20 +36,22 @@ fn list_line(before: Listing, line: &[u8]) -> Listing {
     let indices = got.indices;
     let Line::Read(header) = said else {
         let refusal = said.answer();
-        write_line(number, refusal.number(), indices);
+        let written = write_line(number, refusal.number(), indices);
         let mut after = before;
         after.number = number;
         after.used = 0;
+        after.written = before.written & written;
         return after;
     };
     let answer = ps_data::read_answer(header, before.configured);
-    write_line(number, answer.number(), indices);
+    let written = write_line(number, answer.number(), indices);
     let kept = got.state;
     Listing {
         state: kept,
         configured: before.configured | header.cued,
         number: number,
         used: 0,
+        written: before.written & written,
     }
 }
 
@@ -102,6 +107,16 @@ fn list_input(before: Listing, line: &mut [u8], input: &[u8]) -> Listing {
     listing
 }
 
+// A program has no exit status: the launcher takes what is said here for a failure.
+fn conclude(written: bool) {
+    if !written {
+        io::write_all(
+            STDERR_FILENO,
+            b"lefasumu: standard output: not all could be written\n",
+        );
+    }
+}
+
 fn main() {
     // A line of more than 864 characters is refused whatever they are, so one more than that is all that is held of it.
     let mut line = [0u8; 865];
@@ -111,6 +126,7 @@ fn main() {
         configured: false,
         number: 0,
         used: 0,
+        written: true,
     };
     // A proved loop has to end: no input uses up these turns.
     let mut turns = u64::MAX;
@@ -125,6 +141,7 @@ fn main() {
         }
     }
     if 0 < listing.used {
-        end_line(listing, &line);
+        listing = end_line(listing, &line);
     }
+    conclude(listing.written);
 }

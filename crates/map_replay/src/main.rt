@@ -1,5 +1,5 @@
-// Holds the band map to the Rust's. The input has 77 bytes for each row: its length, the target, 40 places for its indices, the answer, and the 34
-// indices that the Rust gives. It says how many rows are mapped so, or which is not.
+// Compares the band map with the Rust's. The input has 77 bytes for each row: its length, the target, 40 places for its indices, the answer, and the 34
+// indices that the Rust gives. It says how many rows are mapped so, or which is the first that is not.
 use libc::STDIN_FILENO;
 use libc::STDOUT_FILENO;
 ghost use Prim.Native.Nat.{_*_, _≤_};
@@ -9,10 +9,17 @@ ghost use lib.ListN.{length};
 // Whole records that one read brings: 851 records of 77 bytes.
 const PIECE: usize = 65527;
 
-// What a piece of the input says: how many of its records hold, and whether the replay ends with it.
+// What a piece of the input says: how many of its records hold, whether that is all of it, and whether the replay ends with it.
 struct Piece {
     held: u64,
+    whole: bool,
     last: bool,
+}
+
+// How many records hold, up to the first that does not; whole where that is the input's end.
+struct Replayed {
+    count: u64,
+    whole: bool,
 }
 
 fn wide(x: u8) -> usize {
@@ -101,34 +108,45 @@ fn next() -> Piece {
     let mut bytes = [0u8; PIECE];
     let got = io::read_full(STDIN_FILENO, &mut bytes);
     let count = held(&bytes[..got]);
+    let whole = count * 77 == got;
     Piece {
         held: count as u64,
-        last: count * 77 != got || got == 0,
+        whole: whole,
+        last: !whole | (got == 0),
     }
 }
 
-// How many records of the input hold, up to the first that does not.
-fn replay() -> u64 {
-    let mut count = 0;
+fn replay() -> Replayed {
+    let mut replayed = Replayed {
+        count: 0,
+        whole: true,
+    };
     // A proved loop has to end: no input uses up these turns.
     let mut turns = u64::MAX;
     while turns > 0 {
         let read = next();
-        count = std::num::wrapping_add_u64(count, read.held);
+        replayed = Replayed {
+            count: std::num::wrapping_add_u64(replayed.count, read.held),
+            whole: read.whole,
+        };
         if read.last {
             turns = 0;
         } else {
             turns -= 1;
         }
     }
-    count
+    replayed
 }
 
 fn main() {
-    let count = replay();
-    say_number(count);
-    io::write_all(
-        STDOUT_FILENO,
-        b" rows are mapped as the Rust maps them, up to the end or to the first that is not\n",
-    );
+    let replayed = replay();
+    say_number(replayed.count);
+    if replayed.whole {
+        io::write_all(STDOUT_FILENO, b" rows are mapped as the Rust maps them\n");
+    } else {
+        io::write_all(
+            STDOUT_FILENO,
+            b" rows are mapped as the Rust maps them; the next is not, or is cut\n",
+        );
+    }
 }

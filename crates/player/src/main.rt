@@ -10,8 +10,6 @@ mod rows;
 use arguments::Number;
 use frames::Run;
 use frames::Streams;
-use libc::STDERR_FILENO;
-use libc::STDOUT_FILENO;
 
 // Plays the lines to their end.
 fn play(before: Run) -> Run {
@@ -82,23 +80,20 @@ fn open(asked: usize, edge: usize) {
     conclude(play(frames::start(streams, asked, edge)));
 }
 
+// The launcher has tried the arguments and says how to write them; here one that says nothing is only refused.
 fn main() {
-    if os::arg_count() < 2 {
-        report::usage(STDOUT_FILENO);
-        return;
-    }
     let asked = arguments::number_at(1);
     let edge = arguments::number_at(2);
     let Number::Given(slots) = asked else {
-        report::usage(STDERR_FILENO);
+        report::misused();
         return;
     };
     let Number::Given(bands) = edge else {
-        report::usage(STDERR_FILENO);
+        report::misused();
         return;
     };
     if !arguments::all_named() {
-        report::usage(STDERR_FILENO);
+        report::misused();
         return;
     }
     open(slots, bands);

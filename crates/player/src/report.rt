@@ -89,66 +89,9 @@ pub fn short(rows: u64, needed: u64) {
     io::write_all(STDERR_FILENO, b"\n");
 }
 
-fn describe_arguments(to: i32) {
+pub fn misused() {
     io::write_all(
-        to,
-        b"  SLOTS        slots of a frame, a number; below 6 counts as 6, above 32 as 32\n",
+        STDERR_FILENO,
+        b"player: wants SLOTS EDGE LINES SAMPLES LEFT RIGHT\n",
     );
-    io::write_all(
-        to,
-        b"  EDGE         the spectrum's edge in QMF bands, a number; above 64 counts as 64\n",
-    );
-    io::write_all(
-        to,
-        b"  LINES        file of cue lines, one for each frame\n",
-    );
-    io::write_all(
-        to,
-        b"  SAMPLES      file of rows, one for each slot: 64 complex numbers,\n",
-    );
-    io::write_all(
-        to,
-        b"               re then im, 64-bit floats, lowest byte first\n",
-    );
-    io::write_all(
-        to,
-        b"  LEFT, RIGHT  files to write, in rows like those of SAMPLES\n",
-    );
-}
-
-fn describe_frames(to: i32) {
-    io::write_all(
-        to,
-        b"A frame hears its own SLOTS rows and the six rows ahead of them, which are\n",
-    );
-    io::write_all(
-        to,
-        b"the next frame's first. Where SAMPLES ends within the six rows ahead, those\n",
-    );
-    io::write_all(
-        to,
-        b"that are missing count as silence; where it ends within a frame's own rows,\n",
-    );
-    io::write_all(
-        to,
-        b"it is too short: that frame and those after it are not played. A row that\n",
-    );
-    io::write_all(to, b"the end of the file cuts counts as missing.\n");
-    io::write_all(
-        to,
-        b"A frame that is quiet or refused is named, with its number from 1, the\n",
-    );
-    io::write_all(
-        to,
-        b"answer and what it means. To keep time its rows are silence in both outputs.\n",
-    );
-}
-
-pub fn usage(to: i32) {
-    io::write_all(
-        to,
-        b"usage: lefasumu play SLOTS EDGE LINES SAMPLES LEFT RIGHT\n",
-    );
-    describe_arguments(to);
-    describe_frames(to);
 }

@@ -15,8 +15,7 @@ use Rattle.layout.specs.Numbers.{allPassOf}
 use Rattle.lists.specs.Part.{part}
 use Rattle.lists.specs.Rows as lists
 use Rattle.lists.proofs.Rows.{rows-same}
-use Rattle.ps_decorr.specs.Channels.{delaysWith}
-use Rattle.ps_decorr_allpass.specs.Memory.{memoryOf}
+use Rattle.ps_decorr_allpass.specs.Memory.{memoryOf, delaysWith}
 use Rattle.standard.specs.Channel.{Channel}
 use Rattle.standard.specs.Mixing.{leftOf, rightOf}
 use Rattle.ps_allpass_channels.specs.Channels.{channelThen, decorrelated, matrixThen, sideAt, sideRows}

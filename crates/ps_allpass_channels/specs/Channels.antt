@@ -11,7 +11,7 @@ use Rattle.complex.specs.Operations.{scaled}
 use Rattle.layout.specs.declared.Layout.{Layout}
 use Rattle.layout.specs.Numbers.{allPassOf}
 use Rattle.planar.specs.Frame.{sampleAt, qmfAt, qmfRows, qmfBandOf}
-use Rattle.ps_decorr.specs.Channels.{delaysWith}
+use Rattle.ps_decorr_allpass.specs.Memory.{delaysWith}
 use Rattle.ps_decorr_allpass.specs.Memory as memory
 use Rattle.ps_map.specs.Bands.{bandOf, conjugatedOf}
 use Rattle.ps_stereo_slots.specs.Slots.{bordersOf, borderMatrix}

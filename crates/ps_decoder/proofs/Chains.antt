@@ -17,9 +17,9 @@ use Rattle.lists.specs.Part.{part}
 use Rattle.lists.proofs.Rows.{rows-same}
 use Rattle.planar.specs.Frame.{sampleAt, qmfAt, qmfRows, qmfBandOf}
 use Rattle.ps_allpass_channels.specs.Channels as chains
-use Rattle.ps_decorr.specs.Channels.{channelIn, delaysWith}
+use Rattle.ps_decorr.specs.Channels.{channelIn}
 use Rattle.ps_decorr_allpass.specs.Memory as memory
-use Rattle.ps_decorr_allpass.specs.Memory.{channelOf, memoryOf}
+use Rattle.ps_decorr_allpass.specs.Memory.{channelOf, memoryOf, delaysWith}
 use Rattle.ps_map.specs.Bands.{bandOf, conjugatedOf}
 use Rattle.ps_map.proofs.Bands.{band-small}
 use Rattle.standard.specs.declared.Matrix.{Matrix}

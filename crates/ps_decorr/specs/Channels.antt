@@ -11,7 +11,7 @@ use Rattle.lists.specs.Part.{part}
 use Rattle.lists.specs.Rows.{rows, tabulate}
 use Rattle.planar.specs.Cells.{overwritten}
 use Rattle.planar.specs.Window.{imageOf, historyOf}
-use Rattle.ps_decorr_allpass.specs.Memory.{channelOf, memoryOf}
+use Rattle.ps_decorr_allpass.specs.Memory.{channelOf}
 use Rattle.ps_decorr_transient.specs.Gains.{detectorOf}
 use Rattle.standard.specs.Channel.{Channel}
 use Rattle.standard.specs.Detector.{Detector}
@@ -28,10 +28,7 @@ module _ (l : Layout) where
       (cond (ltb k (shortDelayOf l)) (delayOf 14 (part (28 * (k - allPassOf l)) 28 long))
       (delayOf 1 (part (2 * (k - shortDelayOf l)) 2 short)))
 
-  -- the memory that holds the channels; the places of channels and bands that the layout lacks stay
-  unfoldable pub delaysWith : (ℕ → Channel) → List Float → List Float
-  delaysWith channel old = rows (λ k. cond (ltb k (allPassOf l)) (memoryOf (channel k)) (part (28 * k) 28 old)) 50
-
+  -- the memory that holds the channels behind the all-pass ones, and the bands; the places of bands that the layout lacks stay
   unfoldable pub longWith : (ℕ → Channel) → List Float
   longWith channel = rows (λ j. imageOf 14 (channel (allPassOf l + j) .past)) 12
 

@@ -1,4 +1,4 @@
--- The carried state of de-correlation, fresh and after a reset (Annex 8.A.3). The memories are those of ps_decorr_allpass, ps_decorr_delay and
+-- The carried state of de-correlation, fresh and after a reset (Annex 8.A.3). The memories are those of ps_decorr_allpass, ps_delay_channels and
 -- ps_decorr_transient. Assumes nothing.
 use Prim.Native.Nat.{ℕ, _-_, _*_, min}
 use mathlib.Core.List.{List, _++_}

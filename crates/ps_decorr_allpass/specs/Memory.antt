@@ -5,7 +5,10 @@ use mathlib.Core.Bool.{cond}
 use mathlib.Core.List.{List, _++_}
 use lib.Dec.{ltb}
 use lib.Ieee.{Float}
+use Rattle.layout.specs.declared.Layout.{Layout}
+use Rattle.layout.specs.Numbers.{allPassOf}
 use Rattle.lists.specs.Part.{part, put}
+use Rattle.lists.specs.Rows.{rows}
 use Rattle.planar.specs.Cells.{cell, planar, overwritten}
 use Rattle.planar.specs.Frame.{sampleAt}
 use Rattle.planar.specs.Window.{imageOf, historyOf}
@@ -24,6 +27,10 @@ channelOf memory =
 
 abbrev pub memoryOf : Channel → List Float
 memoryOf c = imageOf 2 (c .past) ++ (imageOf 3 (c .first) ++ (imageOf 4 (c .second) ++ imageOf 5 (c .third)))
+
+-- the memory that holds a layout's all-pass channels; the places of channels that it lacks stay
+unfoldable pub delaysWith : Layout → (ℕ → Channel) → List Float → List Float
+delaysWith l channel old = rows (λ k. cond (ltb k (allPassOf l)) (memoryOf (channel k)) (part (28 * k) 28 old)) 50
 
 -- channel k after n slots of a frame's samples
 unfoldable pub channelThen : Chain → List Float → List Float → ℕ → ℕ → Channel

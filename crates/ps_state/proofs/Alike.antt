@@ -19,8 +19,8 @@ use Rattle.lists.proofs.Rows.{rows-same}
 use Rattle.planar.specs.Cells.{overwritten}
 use Rattle.planar.specs.Frame.{numbersOf}
 use Rattle.planar.specs.Window.{imageOf}
-use Rattle.ps_decorr.specs.Channels.{delaysWith, longWith, shortWith, detectorsWith}
-use Rattle.ps_decorr_allpass.specs.Memory.{memoryOf}
+use Rattle.ps_decorr.specs.Channels.{longWith, shortWith, detectorsWith}
+use Rattle.ps_decorr_allpass.specs.Memory.{memoryOf, delaysWith}
 use Rattle.ps_stereo.specs.declared.PsStereo.{PsStereo}
 use Rattle.ps_stereo.specs.Kept.{keptIn, stereoWith}
 use Rattle.standard.specs.Channel.{Channel, back}

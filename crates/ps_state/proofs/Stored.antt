@@ -23,8 +23,8 @@ use Rattle.lists.proofs.Rows.{rows-length}
 use Rattle.planar.specs.Cells.{overwritten}
 use Rattle.planar.specs.Frame.{keptMatrix, numbersOf}
 use Rattle.planar.specs.Window.{imageOf}
-use Rattle.ps_decorr.specs.Channels.{channelIn, delaysWith, longWith, shortWith, detectorsWith}
-use Rattle.ps_decorr_allpass.specs.Memory.{channelOf, memoryOf}
+use Rattle.ps_decorr.specs.Channels.{channelIn, longWith, shortWith, detectorsWith}
+use Rattle.ps_decorr_allpass.specs.Memory.{channelOf, memoryOf, delaysWith}
 use Rattle.ps_decorr_transient.specs.Gains.{detectorOf}
 use Rattle.ps_stereo.specs.declared.PsStereo.{PsStereo}
 use Rattle.ps_stereo.specs.State.{freshStereo}

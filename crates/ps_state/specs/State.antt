@@ -16,7 +16,8 @@ use Rattle.lists.specs.Rows.{rows}
 use Rattle.planar.specs.Window.{imageOf, historyOf}
 use Rattle.ps_data.specs.Indices.{freshIndices}
 use Rattle.ps_decorr.specs.State.{decorrOf, freshDecorr}
-use Rattle.ps_decorr.specs.Channels.{channelIn, delaysWith, longWith, shortWith, detectorsWith}
+use Rattle.ps_decorr.specs.Channels.{channelIn, longWith, shortWith, detectorsWith}
+use Rattle.ps_decorr_allpass.specs.Memory.{delaysWith}
 use Rattle.ps_decorr_transient.specs.Gains.{detectorOf}
 use Rattle.ps_stereo.specs.State.{freshStereo}
 use Rattle.ps_stereo.specs.Kept.{keptIn, stereoWith}

@@ -4,10 +4,10 @@ use Rattle.map_replay.proofs.replay.Statement.{statement}
 use Rattle.map_replay.proofs.replay.Tie as tie
 
 abbrev Inv-loop : tie.InvT-loop
-Inv-loop count₀ turns₀ count turns = Unit {0}
+Inv-loop replayed₀ turns₀ replayed turns = Unit {0}
 
 abbrev μ-loop : tie.MeasureT-loop
-μ-loop count₀ turns₀ count turns = turns
+μ-loop replayed₀ turns₀ replayed turns = turns
 
 pub replay-spec : {M : Type 1} → statement M
 replay-spec =
