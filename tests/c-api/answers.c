@@ -11,12 +11,19 @@
 #define WRITTEN (SLOTS * ROW)
 
 static double memory[NUMBERS], before[NUMBERS], input[HEARD], left[WRITTEN], right[WRITTEN];
+
+/* What the outputs hold before a call: more than any output can be. */
+static const double mark = 1e300;
+
 static int failed = 0;
 
-/* A call must answer as it is said; the memory may change after LEFASUMU_DONE alone. */
+/* A call must answer as it is said. After LEFASUMU_DONE both outputs are written whole; after any other answer no buffer has changed. */
 static void call(const char *what, uint32_t wanted, const char *line, size_t input_length, size_t left_length) {
     uint32_t answer;
+    size_t i, written = 0;
     memcpy(before, memory, sizeof memory);
+    for (i = 0; i < WRITTEN; i++)
+        left[i] = right[i] = mark;
     answer = lefasumu_frame(memory, NUMBERS, (const uint8_t *)line, strlen(line), input, input_length, 64, left, left_length, right, WRITTEN);
     if (answer != wanted) {
         printf("c-api: %s: answer %u, the header has %u\n", what, (unsigned)answer, (unsigned)wanted);
@@ -24,6 +31,12 @@ static void call(const char *what, uint32_t wanted, const char *line, size_t inp
     }
     if (answer != LEFASUMU_DONE && memcmp(before, memory, sizeof memory) != 0) {
         printf("c-api: %s: the memory changed\n", what);
+        failed = 1;
+    }
+    for (i = 0; i < WRITTEN; i++)
+        written += (size_t)(left[i] < mark) + (size_t)(right[i] < mark);
+    if (written != (answer == LEFASUMU_DONE ? 2u * WRITTEN : 0u)) {
+        printf("c-api: %s: %lu numbers of the outputs were written\n", what, (unsigned long)written);
         failed = 1;
     }
 }
