@@ -1,4 +1,4 @@
-//! Lefasumu through its face for C, and the untouched Rust, on the same frames: time, heap allocations, memory and stack.
+//! Lefasumu through its C API, and the untouched Rust, on the same frames: time, heap allocations, memory and stack.
 
 #[path = "../oracle/src/bits.rs"]
 mod bits;

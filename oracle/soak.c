@@ -1,4 +1,4 @@
-/* Plays a stream of `oracle runs` (oracle/README.md, Streams) through the face for C, and before each of its calls hostile ones on copies.
+/* Plays a stream of `oracle runs` (oracle/README.md, Streams) through the C API, and before each of its calls hostile ones on copies.
  *     soak SEED [guard] < STREAM      SEED is that of the hostile calls
  * Every buffer is lent with exactly its length: in a block of malloc, which valgrind watches, or with `guard` beside a page that nobody may touch.
  * The exit is 0 where all is held, else 1 after a line with the run, the call and what differs. */
@@ -15,8 +15,8 @@
 #include <unistd.h>
 #include <valgrind/memcheck.h>
 
-/* Numbers of the memory and of its head, the most that a record may ask for, and bytes of a room: whole pages of any usual size. */
-enum { MEMORY = 2372, HEAD = 4, LINE = 2048, INPUT = 5632, SIDE = 4352, ROW = 128, NUMBER = sizeof(double), ROOM = 65536 };
+/* Numbers of the memory and of its head, the longest line that is read, the most that a record may ask for, and bytes of a room: whole pages of any usual size. */
+enum { MEMORY = 2372, HEAD = 4, DIGITS = 864, LINE = 2048, INPUT = 5632, SIDE = 4352, ROW = 128, NUMBER = sizeof(double), ROOM = 65536 };
 enum part { OF_MEMORY, OF_LINE, OF_INPUT, OF_LEFT, OF_RIGHT, PARTS };
 static const char *const names[PARTS] = {"memory", "line", "input", "left", "right"};
 
@@ -28,6 +28,8 @@ struct head {
     uint64_t number;
     double step;
     uint32_t reach, given, line, input, left, right;
+    /* Where the line is refused, and how many frames in a row were held: nothing is compared with them yet. */
+    uint32_t place, held;
 };
 
 struct record {
@@ -270,7 +272,7 @@ static void hostile_line(struct soak *s, const struct record *r) {
         line[below(s, count)] = digit;
     name_call(s, ", hostile line");
     uint32_t answer = play_hostile(s, r, (struct call){s->memory, line, MEMORY, count, INPUT});
-    if (count > 864)
+    if (count > DIGITS)
         wanted(answer, LEFASUMU_LENGTH);
 }
 

@@ -2,7 +2,7 @@
 
 use crate::decoder::{Decoder, Frame};
 use crate::judge::Judge;
-use crate::line::{self, Cue, Row};
+use crate::line::{Cue, Row};
 use std::collections::BTreeMap;
 
 /// The facts of one run that a later frame is counted against.
@@ -34,12 +34,14 @@ impl Coverage {
         if frame.input.len() > (decoder.slots + 6) * 128 {
             self.fact("input has rows that are not read");
         }
-        let Ok(Some(bytes)) = line::bytes_of(&frame.line) else {
+        let Ok(Some(bytes)) = decoder.reader.bytes_of(&frame.line) else {
             self.fact("line empty");
             self.fact(format!("layout {}", before.layout.unwrap_or(20)));
             return;
         };
-        let Ok(cue) = line::cue(&bytes) else { return };
+        let Ok(cue) = decoder.reader.cue(&bytes) else {
+            return;
+        };
         self.fact(format!("envelopes {}", cue.envelopes));
         self.fact(format!(
             "iid_mode {}{}",

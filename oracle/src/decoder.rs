@@ -1,7 +1,7 @@
 //! A decoder by document 01 around a variant of the Rust: the refusals are ours, the sound its own.
 
 use crate::judge::Judge;
-use crate::line;
+use crate::line::{READER, Reader, Refusal};
 use crate::samples::Noise;
 
 pub const LARGEST_SAMPLE: f64 = 1_048_576.0;
@@ -23,9 +23,12 @@ pub struct Run {
     pub frames: Vec<Frame>,
 }
 
-/// The answer; the outputs have numbers only where it is 0.
+/// The answer and its place; the outputs have numbers only where the answer is 0.
 pub struct Outcome {
     pub answer: u8,
+    pub place: usize,
+    /// How many frames in a row were held, by document 02 [4]; nobody counts them yet.
+    pub held: u16,
     pub left: Vec<f64>,
     pub right: Vec<f64>,
 }
@@ -36,8 +39,10 @@ pub fn slots_of(asked: u64) -> usize {
 
 pub struct Decoder<J> {
     pub judge: J,
+    pub reader: Reader,
     pub slots: usize,
     configured: bool,
+    held: u16,
 }
 
 impl<J: Judge> Decoder<J> {
@@ -45,18 +50,22 @@ impl<J: Judge> Decoder<J> {
         let judge = J::fresh(usize::try_from(asked).unwrap_or(usize::MAX));
         Decoder {
             judge,
+            reader: READER,
             slots: slots_of(asked),
             configured: false,
+            held: 0,
         }
     }
 
     /// The refusals in document 01's order; the Rust sees accepted frames only.
     pub fn frame(&mut self, frame: &Frame) -> Outcome {
-        let bytes = match accepted(self.slots, self.configured, frame) {
+        let bytes = match accepted(&self.reader, self.slots, self.configured, frame) {
             Ok(bytes) => bytes,
-            Err(answer) => {
+            Err(Refusal { answer, place }) => {
                 return Outcome {
                     answer,
+                    place,
+                    held: self.held,
                     left: Vec::new(),
                     right: Vec::new(),
                 };
@@ -67,6 +76,8 @@ impl<J: Judge> Decoder<J> {
         let (left, right) = self.judge.frame(bytes.as_deref(), &frame.input, edge);
         Outcome {
             answer: 0,
+            place: 0,
+            held: self.held,
             left,
             right,
         }
@@ -74,25 +85,30 @@ impl<J: Judge> Decoder<J> {
 }
 
 /// An accepted frame's bytes, none for an empty line, or the answer that is not 0.
-pub fn accepted(slots: usize, configured: bool, frame: &Frame) -> Result<Option<Vec<u8>>, u8> {
-    let bytes = line::bytes_of(&frame.line)?;
+pub fn accepted(
+    reader: &Reader,
+    slots: usize,
+    configured: bool,
+    frame: &Frame,
+) -> Result<Option<Vec<u8>>, Refusal> {
+    let bytes = reader.bytes_of(&frame.line)?;
     if bytes.is_none() && !configured {
-        return Err(1);
+        return Err(Refusal::without_place(1));
     }
     let read = (slots + 6) * 128;
     let written = slots * 128;
     let input = &frame.input;
     if input.len() % 128 != 0 || input.len() < read {
-        return Err(5);
+        return Err(Refusal::without_place(5));
     }
     if frame.left != written || frame.right != written {
-        return Err(5);
+        return Err(Refusal::without_place(5));
     }
     if input[..read]
         .iter()
         .any(|sample| !(sample.abs() <= LARGEST_SAMPLE))
     {
-        return Err(6);
+        return Err(Refusal::without_place(6));
     }
     Ok(bytes)
 }

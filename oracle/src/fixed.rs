@@ -1,6 +1,7 @@
 //! `runs --fixed`: the list in tests/replay. Every limit of document 01, the order of its refusals, and what one frame leaves to the next.
 
 use crate::decoder::{Frame, LARGEST_SAMPLE, Run, slots_of};
+use crate::line::READER;
 use crate::lines::{bytes, hexadecimal};
 use crate::random::Random;
 use crate::samples::{self, Kind};
@@ -115,9 +116,11 @@ fn digits(count: usize, last: &str) -> String {
 /// The limits of a line, and each pair of neighbours in the order of refusals with both faults at once.
 fn lines() -> Run {
     let mut make = Maker::new(3, 6);
+    let (most, over, odd) = (READER.digits, READER.digits + 1, READER.digits - 1);
+    let envelopes = |count: u8| format!("{count:08x}");
     make.cued(NARROW);
-    make.refused(&[&digits(865, ""), &digits(864, ""), &digits(863, "")]);
-    make.refused(&[&digits(865, "g"), &digits(864, "g"), &digits(864, " ")]);
+    make.refused(&[&digits(over, ""), &digits(most, ""), &digits(odd, "")]);
+    make.refused(&[&digits(over, "g"), &digits(most, "g"), &digits(most, " ")]);
     make.refused(&["0", "00", "000", "0000", "00000", "000000", "0000000"]);
     make.refused(&["000000000", "0000000000", "00g", "0000000G", "0000000A"]);
     make.refused(&[
@@ -129,17 +132,19 @@ fn lines() -> Run {
     ]);
     // A field and the length before it in the order, or behind it.
     make.refused(&["1000000", "100000000", "1000000000", "0006000000"]);
-    make.refused(&["10000000", "00060000", "00000600", "00000005"]);
+    let many = envelopes(READER.envelopes + 1);
+    make.refused(&["10000000", "00060000", "00000600", &many]);
     make.refused(&["80000000", "00ff0000", "0000ff00", "000000ff"]);
-    for line in ["00000000", "00050000", "00000500", "0f050500", "00000004"] {
+    let many = envelopes(READER.envelopes);
+    for line in ["00000000", "00050000", "00000500", "0f050500", &many] {
         make.call(line.into());
     }
     // The longest line, and one byte more or less, also with a border out of range.
-    let longest = make.line([15, 5, 5, 4]);
+    let longest = make.line([15, 5, 5, READER.envelopes]);
     make.call(longest.clone());
-    make.call(longest[..862].to_vec());
+    make.call(longest[..most - 2].to_vec());
     make.call([&longest[..], b"00"].concat());
-    make.call([&longest[..8], b"20", &longest[10..862]].concat());
+    make.call([&longest[..8], b"20", &longest[10..most - 2]].concat());
     borders_and_times(&mut make);
     make.done()
 }

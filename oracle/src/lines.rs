@@ -1,6 +1,6 @@
 //! Cue lines by chance: good ones whose modes persist for a while, and broken ones.
 
-use crate::line::Shape;
+use crate::line::{READER, Shape};
 use crate::random::Random;
 
 /// The configuration a run of lines is in.
@@ -35,7 +35,8 @@ impl Style {
     pub fn bytes(&mut self, random: &mut Random) -> Vec<u8> {
         self.wander(random);
         let variable = if random.one_in(3) { 4 } else { 0 };
-        let envelopes = random.pick(&[0, 1, 1, 2, 2, 3, 4, 4]);
+        let most = READER.envelopes;
+        let envelopes = random.pick(&[0, 1, 1, 2, 2, 3, most, most]);
         let present = self.present + variable;
         bytes(random, [present, self.iid_mode, self.icc_mode, envelopes])
     }
@@ -109,11 +110,12 @@ pub fn bad(random: &mut Random, style: &mut Style) -> Vec<u8> {
 }
 
 fn spoil_bytes(random: &mut Random, bytes: &mut Vec<u8>) {
+    let most = READER.envelopes;
     match random.below(8) {
         0 => bytes[0] |= 16 << random.below(4),
         1 => bytes[1] = random.pick(&[6, 7, 8, 255]),
         2 => bytes[2] = random.pick(&[6, 7, 8, 255]),
-        3 => bytes[3] = random.pick(&[5, 6, 8, 255]),
+        3 => bytes[3] = random.pick(&[most + 1, most + 2, 2 * most, 255]),
         4 => bytes.push(random.below(256) as u8),
         5 => bytes.truncate(4 + random.below(bytes.len() - 3)),
         // Borders and time bytes stand here and there; deltas take any value.
@@ -130,14 +132,18 @@ fn spoil_bytes(random: &mut Random, bytes: &mut Vec<u8>) {
 
 fn spoil_characters(random: &mut Random, line: &mut Vec<u8>) {
     let place = random.below(line.len());
+    let most = READER.digits;
     match random.below(7) {
         0 => line[place] = random.pick(b" gGAF/:`x-+\t\r\0\x7f\x80\xff"),
         1 => line.insert(place, random.pick(b" 0f")),
         2 => drop(line.pop()),
         3 => line.truncate(1 + random.below(7)),
-        4 => line.resize(random.pick(&[863, 864, 865, 866, 2000]), b'0'),
+        4 => {
+            let length = random.pick(&[most - 1, most, most + 1, most + 2, 2000]);
+            line.resize(length, b'0');
+        }
         5 => {
-            line.resize(random.pick(&[862, 864, 865, 900]), b'0');
+            line.resize(random.pick(&[most - 2, most, most + 1, most + 36]), b'0');
             line[place] = b' ';
         }
         _ => line.make_ascii_uppercase(),

@@ -1,6 +1,6 @@
 //! `indices`, `maps` and `lines`: the index half of the Rust on standard input and output.
 
-use crate::line;
+use crate::line::{Mode, READER};
 use crate::lines::{self, Style};
 use crate::random::Random;
 use crate::untouched::data;
@@ -22,19 +22,26 @@ pub fn indices() -> bool {
     let mut state = PsIndexState::default();
     let mut configured = false;
     for (number, characters) in input_lines().enumerate() {
-        let text = match line::bytes_of(&characters) {
-            Err(answer) => answer.to_string(),
+        let text = match READER.bytes_of(&characters) {
+            Err(refusal) => refusal.answer.to_string(),
             Ok(None) if configured => "0".to_string(),
             Ok(None) => "1".to_string(),
             Ok(Some(bytes)) => {
                 configured = true;
-                let resolved = data(&bytes).resolve(&mut state);
-                format!("0{}", rows_text(&resolved.expect("any deltas resolve")))
+                format!("0{}", rows_text(&resolved(READER.mode, &bytes, &mut state)))
             }
         };
         writeln!(output, "{} {text}", number + 1).expect("standard output is writable");
     }
     true
+}
+
+/// The rows of an accepted line, by the Rust, in a mode.
+fn resolved(mode: Mode, bytes: &[u8], state: &mut PsIndexState) -> PsIndices {
+    let resolved = match mode {
+        Mode::Rust => data(bytes).resolve(state),
+    };
+    resolved.expect("any deltas resolve")
 }
 
 fn rows_text(resolved: &PsIndices) -> String {

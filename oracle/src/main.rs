@@ -11,6 +11,7 @@ mod line;
 mod lines;
 mod listing;
 mod narrow;
+mod places;
 mod random;
 mod runs;
 mod samples;
@@ -36,6 +37,7 @@ const USAGE: &str = "usage: oracle tables
        oracle indices < LINES
        oracle maps < ROWS
        oracle lines [--count N] [--seed S]
+       oracle places [--count N] [--seed S]
        oracle runs [--count N] [--seed S] > STREAM
        oracle runs --fixed > STREAM
        oracle narrow --seed RUN_SEED PROGRAM [WORDS]";
@@ -82,6 +84,7 @@ fn main() -> ExitCode {
         Some("indices") => listing::indices(),
         Some("maps") => listing::maps(),
         Some("lines") => listing::print_lines(count, seed),
+        Some("places") => places::check(count, seed),
         Some("runs") if given("--fixed") => stream::print(fixed::runs()),
         Some("runs") => stream::print((seed..seed + count as u64).map(runs::with_refusals)),
         Some("narrow") if words.len() > 3 => narrow::narrow(seed, &words[3..]),

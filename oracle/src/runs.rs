@@ -1,6 +1,7 @@
 //! Whole runs by chance: lines, samples, buffer lengths and edges, with refusals among them.
 
 use crate::decoder::{Frame, LARGEST_SAMPLE, Run, accepted, slots_of};
+use crate::line::READER;
 use crate::lines::{self, Style};
 use crate::random::Random;
 use crate::samples::{self, FAINTEST, KINDS, Kind, Noise};
@@ -41,11 +42,11 @@ pub fn with_refusals(seed: u64) -> Run {
     for frame in frames {
         for _ in 0..random.below(3) {
             let call = spoilt(&mut random, slots, &frame);
-            if accepted(slots, configured, &call).is_err() {
+            if accepted(&READER, slots, configured, &call).is_err() {
                 calls.push(call);
             }
         }
-        configured |= accepted(slots, configured, &frame).is_ok();
+        configured |= accepted(&READER, slots, configured, &frame).is_ok();
         calls.push(frame);
     }
     Run {

@@ -16,8 +16,8 @@ struct Place {
     number: u32,
 }
 
-/// 48 bytes before a frame: what it is, and how many numbers follow of each kind.
-fn head(place: &Place, frame: &Frame, counts: [usize; 3]) -> Vec<u8> {
+/// 48 bytes before a frame: what it is, how many numbers follow of each kind, and how many frames in a row were held.
+fn head(place: &Place, frame: &Frame, counts: [usize; 4]) -> Vec<u8> {
     let mut head = vec![FRAME, u8::from(place.starts)];
     head.extend((frame.line.len() as u16).to_le_bytes());
     head.extend(place.number.to_le_bytes());
@@ -27,7 +27,6 @@ fn head(place: &Place, frame: &Frame, counts: [usize; 3]) -> Vec<u8> {
     for count in counts {
         head.extend((count as u32).to_le_bytes());
     }
-    head.resize(48, 0);
     head
 }
 
@@ -57,7 +56,12 @@ fn write_run(output: &mut impl Write, seed: u64) -> io::Result<usize> {
         };
         let stages = tabled::Variant::stages();
         let input = &frame.input[..(decoder.slots + 6) * 128];
-        let counts = [input.len(), stages.hybrid.len(), outcome.left.len()];
+        let counts = [
+            input.len(),
+            stages.hybrid.len(),
+            outcome.left.len(),
+            usize::from(outcome.held),
+        ];
         output.write_all(&head(&place, frame, counts))?;
         output.write_all(&frame.line)?;
         let hybrid = [

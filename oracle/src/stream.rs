@@ -8,10 +8,12 @@ use std::io::{self, Write};
 const END: u8 = 0;
 const RUN: u8 = 1;
 const CALL: u8 = 2;
+/// Bytes of a record's head.
+const HEAD: usize = 56;
 
-/// A record of 48 bytes with one number in it: what a run asks, or the end.
+/// A head with one number in it, and nothing behind: what a run asks, or the end.
 fn short(kind: u8, number: u64) -> Vec<u8> {
-    let mut record = vec![0; 48];
+    let mut record = vec![0; HEAD];
     record[0] = kind;
     record[8..16].copy_from_slice(&number.to_le_bytes());
     record
@@ -40,6 +42,8 @@ fn call(frame: &Frame, outcome: &Outcome) -> Vec<u8> {
         frame.input.len(),
         frame.left,
         frame.right,
+        outcome.place,
+        usize::from(outcome.held),
     ];
     let mut record = vec![CALL, outcome.answer];
     record.extend((noise.width as u16).to_le_bytes());

@@ -11,7 +11,7 @@ pub mod sbr_qmf;
 
 use crate::bits::BitReader;
 use crate::judge::{Judge, Stages};
-use crate::line::{self, Row};
+use crate::line::{READER, Row};
 use ps_data::{PsConfig, PsData};
 use sbr_qmf::Complex;
 use std::cell::RefCell;
@@ -56,7 +56,7 @@ pub fn data_of_line(
 
 /// The `PsData` that an accepted line's bytes stand for.
 pub fn data(bytes: &[u8]) -> PsData {
-    let Ok(cue) = line::cue(bytes) else {
+    let Ok(cue) = READER.cue(bytes) else {
         panic!("only accepted lines reach the Rust")
     };
     let times = |rows: &[Row]| rows.iter().map(|row| row.time).collect();

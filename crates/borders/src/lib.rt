@@ -1,7 +1,8 @@
 // Slots of a frame, and the borders of its envelopes (source document 000).
 ghost use mathlib.Core.Path.{_≡_};
 ghost use Prim.Native.Nat.{_<_, _≤_, _-_, min};
-ghost use Rattle.lists.specs.Held.{held};
+ghost use Rattle.limits.specs.Limits as limits;
+ghost use Rattle.lists.specs.Padded.{padded};
 ghost use Rattle.borders.specs.Borders.{slotsOf, fixedBorder, borderOf, bordersOf};
 
 // The slots of a frame, for an asked number.
@@ -18,7 +19,7 @@ pub fn slots(asked: usize) -> usize
 }
 
 fn fixed(slots: usize, envelopes: usize, e: usize) -> u8
-    requires { ⌜ (6 ≤ slots) × (slots ≤ 32) × (envelopes ≤ 4) × (e < envelopes) ⌝ }
+    requires { ⌜ (6 ≤ slots) × (slots ≤ 32) × (envelopes ≤ limits.envelopes) × (e < envelopes) ⌝ }
     ensures { λ r. ⌜ r ≡ fixedBorder slots envelopes e ⌝ }
 {
     (slots * (e + 1) / envelopes - 1) as u8
@@ -30,8 +31,14 @@ fn capped(position: u8, last: u8) -> u8
     if position < last { position } else { last }
 }
 
-fn border(slots: usize, variable: bool, envelopes: usize, positions: [u8; 4], e: usize) -> u8
-    requires { ⌜ (6 ≤ slots) × (slots ≤ 32) × (envelopes ≤ 4) × (e < envelopes) ⌝ }
+fn border(
+    slots: usize,
+    variable: bool,
+    envelopes: usize,
+    positions: [u8; limits::ENVELOPES],
+    e: usize,
+) -> u8
+    requires { ⌜ (6 ≤ slots) × (slots ≤ 32) × (envelopes ≤ limits.envelopes) × (e < envelopes) ⌝ }
     ensures { λ r. ⌜ r ≡ borderOf slots variable envelopes positions e ⌝ }
 {
     if variable {
@@ -41,19 +48,18 @@ fn border(slots: usize, variable: bool, envelopes: usize, positions: [u8; 4], e:
     }
 }
 
-fn least(a: usize, b: usize) -> usize
-    ensures { λ r. ⌜ r ≡ min a b ⌝ }
-{
-    if a < b { a } else { b }
-}
-
-// The borders of at most four envelopes, zeros after them; `positions` are the line's own, where borders are variable.
-pub fn borders(asked: usize, variable: bool, envelopes: usize, positions: [u8; 4]) -> [u8; 4]
-    ensures { λ r. ⌜ r ≡ held 4 0 (bordersOf (slotsOf asked) variable (min envelopes 4) positions) ⌝ }
+// The borders of a frame's envelopes, zeros after them; `positions` are the line's own, where borders are variable.
+pub fn borders(
+    asked: usize,
+    variable: bool,
+    envelopes: usize,
+    positions: [u8; limits::ENVELOPES],
+) -> [u8; limits::ENVELOPES]
+    ensures { λ r. ⌜ r ≡ padded limits.envelopes 0 (bordersOf (slotsOf asked) variable (min envelopes limits.envelopes) positions) ⌝ }
 {
     let within = slots(asked);
-    let count = least(envelopes, 4);
-    let mut out = [0u8; 4];
+    let count = limits::least(envelopes, limits::ENVELOPES);
+    let mut out = [0u8; limits::ENVELOPES];
     let mut e = 0;
     while e < count {
         out[e] = border(within, variable, count, positions, e);

@@ -9,14 +9,15 @@ use Rattle.complex.specs.declared.Complex.{Complex}
 use Rattle.layout.specs.declared.Layout.{Layout}
 use Rattle.layout.specs.Numbers.{channelsOf, splitOf}
 use Rattle.planar.specs.Frame.{qmfAt, qmfRows}
-use Rattle.ps_data.specs.declared.PsIndexState.{PsIndexState}
+use Rattle.ps_data.specs.declared.PsLines.{PsLines}
 use Rattle.ps_data.specs.Indices.{resolveLine}
 use Rattle.standard.specs.Core.{Head, Frame, Core, sameLayout, ready, next}
 use Rattle.standard.specs.Hybrid.{hybrid, synthesised}
+use Rattle.standard.proofs.Runs.{ready-layout}
 use Rattle.calls.specs.Call.{Call, Playing, answerOf, answer, layout, head, pastReady, slotAt, frameOf, after, rowsOf}
 use Rattle.calls.specs.Near.{Alike, NearCore, Near}
 use Rattle.calls.proofs.Channels.{past-alike}
-use Rattle.calls.proofs.Ready.{near-ready, ready-layout, layout-is, next-layout, near-next}
+use Rattle.calls.proofs.Ready.{near-ready, layout-is, next-layout, near-next}
 use Rattle.calls.proofs.Rows.{hybrid-same, synthesised-same, rows-same}
 
 frame-parts : (f g : Frame) → f .head ≡ g .head → f .cue ≡ g .cue → f .sample ≡ g .sample → f ≡ g
@@ -32,13 +33,13 @@ module _ (s t : Playing) (c : Call) (near : Near s t) where
 
   pub near-answer : answer s c ≡ answer t c
   unfolding answerOf
-  near-answer = rw (near .slots, near .configured, near .indices)
+  near-answer = rw (near .slots, near .lines)
 
   pub near-layout : layout s c ≡ layout t c
-  near-layout = rw (near .indices, near .core .layout)
+  near-layout = rw (near .lines, near .core .layout)
 
   pub near-head : head s c ≡ head t c
-  near-head = rw (near .slots, near .indices, near .core .layout)
+  near-head = rw (near .slots, near .lines, near .core .layout)
 
   -- ---- the frame
 
@@ -68,7 +69,7 @@ module _ (s t : Playing) (c : Call) (near : Near s t) where
 
   pub near-cue : frameOf s c .cue ≡ frameOf t c .cue
   unfolding frameOf
-  near-cue = rw (near .indices, near .core .layout)
+  near-cue = rw (near .lines, near .core .layout)
 
   -- the whole frame is the same: what lies further back than six slots never enters it
   pub near-frames : frameOf s c ≡ frameOf t c
@@ -101,8 +102,7 @@ module _ (s t : Playing) (c : Call) (near : Near s t) where
   near-afterwards =
       record {
         slots = near .slots;
-        configured = refl;
-        indices = ap (λ (x : PsIndexState). resolveLine x (c .line) .state) (near .indices);
+        lines = ap (λ (x : PsLines). resolveLine x (c .line) .lines) (near .lines);
         past = λ p u. rw (near .slots) (past-alike 6 (pastReady s c p) (pastReady t c p) (λ n. qmfAt (c .input) n p) (t .slots) (near-past p (of-layout p u)));
         core = near-next-core;
       }

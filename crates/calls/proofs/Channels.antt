@@ -85,8 +85,3 @@ module _ (l : Layout) (k : ℕ) where
   unfolding channelAt
   near-channel chain c d x zero near = near
   near-channel chain c d x (suc n) near = near-step (channelAt chain c x n) (channelAt chain d x n) (near-channel chain c d x n near) chain (x n)
-
-  -- what comes out after n slots
-  pub near-output-at : (chain : Chain) (c d : Channel) (x : ℕ → Complex) (n : ℕ) → NearChannel l k c d
-      → channelOutput l k (channelAt chain c x n) ≡ channelOutput l k (channelAt chain d x n)
-  near-output-at chain c d x n near = near-output (channelAt chain c x n) (channelAt chain d x n) (near-channel chain c d x n near)

@@ -10,12 +10,12 @@ use Rattle.standard.specs.Core.{Head, Frame, envelopes, Core, ready, leftAt, ri
 use Rattle.standard.specs.Core as core
 use Rattle.standard.specs.Hybrid.{synthesised}
 use Rattle.standard.specs.Isolation.{Same}
+use Rattle.standard.proofs.Runs.{ready-layout}
 use Rattle.standard.proofs.Frames.{Agree, left-same, right-same, after-same}
 use Rattle.calls.specs.Call.{Call, Playing, head, layout, frameOf, rowsOf}
 use Rattle.calls.specs.Near.{NearCore}
 use Rattle.calls.proofs.Relation.{channel-itself, core-by}
 use Rattle.calls.proofs.Cores.{near-left, near-right, near-after}
-use Rattle.calls.proofs.Ready.{ready-layout}
 use Rattle.calls.proofs.Rows.{synthesised-same, rows-same}
 
 -- ---- two frames

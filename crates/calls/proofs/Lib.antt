@@ -8,3 +8,4 @@ pub mod Rows
 pub mod Calls
 pub mod Outcomes
 pub mod Isolation
+pub mod Accepts

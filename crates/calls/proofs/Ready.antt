@@ -9,6 +9,7 @@ use Rattle.layout.specs.declared.Layout.the-variants.{Bands20, Bands34}
 use Rattle.standard.specs.Channel.{Channel, silent}
 use Rattle.standard.specs.Detector.{calm}
 use Rattle.standard.specs.Core.{Head, Frame, Core, sameLayout, remapped, switched, clearFrom, cleared, ready, after, next}
+use Rattle.standard.proofs.Runs.{ready-layout}
 use Rattle.calls.specs.Near.{NearChannel, NearCore}
 use Rattle.calls.proofs.Relation.{channel-itself}
 use Rattle.calls.proofs.Cores.{near-after}
@@ -64,25 +65,12 @@ near-ready head s t near = go (switched (head .layout) s) (switched (head .layou
 
 -- ---- the layout of a state that is ready
 
-pub same-layout : (l : Layout) → sameLayout l l ≡ true
-unfolding sameLayout
-same-layout Bands20 = refl
-same-layout Bands34 = refl
-
 pub layout-is : (x y : Layout) → sameLayout x y ≡ true → x ≡ y
 unfolding sameLayout
 layout-is Bands20 Bands20 e = refl
 layout-is Bands20 Bands34 e = absurd (true≢false (sym e))
 layout-is Bands34 Bands20 e = absurd (true≢false (sym e))
 layout-is Bands34 Bands34 e = refl
-
-pub ready-layout : (head : Head) (s : Core) → ready head s .layout ≡ head .layout
-unfolding ready switched
-ready-layout head s = go (sameLayout (s .layout) (head .layout)) refl
-  where
-    go : (same : Bool) → sameLayout (s .layout) (head .layout) ≡ same → cond same s (other-layout (head .layout) s) .layout ≡ head .layout
-    go true e = layout-is (s .layout) (head .layout) e
-    go false e = refl
 
 -- ---- a whole frame
 

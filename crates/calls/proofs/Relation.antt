@@ -1,4 +1,4 @@
--- `NearCore` and `Near` hold of a state and itself, in either order, and from one state by another to a third. Assumes nothing.
+-- `NearCore` and `Near` hold of a state and itself, and from one state by another to a third. Assumes nothing.
 use Prim.Native.Nat.{ℕ, _<_}
 use mathlib.Core.Path.{_≡_, refl, sym, subst, _∙_}
 use Rattle.layout.specs.declared.Layout.{Layout}
@@ -13,15 +13,6 @@ use Rattle.calls.specs.Near.{Alike, NearChannel, NearCore, Near}
 module _ (l : Layout) (k : ℕ) where
   pub channel-itself : (c d : Channel) → c ≡ d → NearChannel l k c d
   channel-itself c d e = record { past = λ i u. rw e; first = λ v i u. rw e; second = λ v i u. rw e; third = λ v i u. rw e }
-
-  channel-swapped : (c d : Channel) → NearChannel l k c d → NearChannel l k d c
-  channel-swapped c d near =
-      record {
-        past = λ i u. sym (near .past i u);
-        first = λ v i u. sym (near .first v i u);
-        second = λ v i u. sym (near .second v i u);
-        third = λ v i u. sym (near .third v i u);
-      }
 
   channel-by : (c d e : Channel) → NearChannel l k c d → NearChannel l k d e → NearChannel l k c e
   channel-by c d e near further =
@@ -55,16 +46,6 @@ module _ (l : Layout) (s t : Core) (near : NearCore s t) (e : s .layout ≡ l) w
   pub kepts : (b : ℕ) → b < bandsOf l → s .kept b ≡ t .kept b
   kepts b u = near .kept b (rw e u)
 
-pub core-swapped : (s t : Core) → NearCore s t → NearCore t s
-core-swapped s t near =
-    record {
-      layout = sym (near .layout);
-      cued = sym (near .cued);
-      channel = λ k u. channel-swapped (t .layout) k (s .channel k) (t .channel k) (channels (t .layout) s t near (near .layout) k u);
-      detector = λ b u. sym (detectors (t .layout) s t near (near .layout) b u);
-      kept = λ b u. sym (kepts (t .layout) s t near (near .layout) b u);
-    }
-
 pub core-by : (r s t : Core) → NearCore r s → NearCore s t → NearCore r t
 core-by r s t near further =
     let e : s .layout ≡ r .layout = sym (near .layout) in
@@ -79,28 +60,17 @@ core-by r s t near further =
 -- ---- what is carried from call to call
 
 pub near-itself : (s : Playing) → Near s s
-near-itself s = record { slots = refl; configured = refl; indices = refl; past = λ p v i u. refl; core = core-itself (s .core) }
+near-itself s = record { slots = refl; lines = refl; past = λ p v i u. refl; core = core-itself (s .core) }
 
 module _ (l : Layout) (s t : Playing) (near : Near s t) (e : s .core .layout ≡ l) where
   pub pasts : (p : ℕ) → p < splitOf l → Alike 6 (s .past p) (t .past p)
   pasts p v = near .past p (rw e v)
 
-pub near-swapped : (s t : Playing) → Near s t → Near t s
-near-swapped s t near =
-    record {
-      slots = sym (near .slots);
-      configured = sym (near .configured);
-      indices = sym (near .indices);
-      past = λ p v i u. sym (pasts (t .core .layout) s t near (near .core .layout) p v i u);
-      core = core-swapped (s .core) (t .core) (near .core);
-    }
-
 pub near-by : (r s t : Playing) → Near r s → Near s t → Near r t
 near-by r s t near further =
     record {
       slots = near .slots ∙ further .slots;
-      configured = near .configured ∙ further .configured;
-      indices = near .indices ∙ further .indices;
+      lines = near .lines ∙ further .lines;
       past = λ p v i u. near .past p v i u ∙ pasts (r .core .layout) s t further (sym (near .core .layout)) p v i u;
       core = core-by (r .core) (s .core) (t .core) (near .core) (further .core);
     }

@@ -1,5 +1,5 @@
 -- On a change of layout the kept coefficients are brought from bands of the old layout alone: one computed test over each table of sources. Assumes nothing.
-use Prim.Native.Nat.{ℕ, _<_, _≤_}
+use Prim.Native.Nat.{ℕ, _<_}
 use native.Mathlib.Omega.{arith}
 use mathlib.Core.Path.{_≡_, refl, sym, ap, _∙_}
 use mathlib.Core.Bool.{Bool, true, false, true≢false}
@@ -11,8 +11,9 @@ use borrow.Author.Tests.{ltb-true}
 use Rattle.layout.specs.declared.Layout.{Layout}
 use Rattle.layout.specs.declared.Layout.the-variants.{Bands20, Bands34}
 use Rattle.layout.specs.Numbers.{bandsOf}
+use Rattle.layout.proofs.Bounds.{bounds}
 use Rattle.lists.specs.All.{all}
-use Rattle.lists.specs.Held.{held}
+use Rattle.lists.specs.Padded.{padded}
 use Rattle.lists.specs.Rows.{tabulate}
 use Rattle.lists.proofs.Alls.{all-at}
 use Rattle.lists.proofs.Maps.{tabulate-at, tabulate-same, mapped}
@@ -62,19 +63,15 @@ module _ (n : ℕ) (v w : List Float) (same : (i : ℕ) → i < n → coefficien
       (λ i u. source-same (getD sources i (Single 0)) (all-at (below n) sources i (Single 0) u e))
       ∙ mapped (coefficientFrom w) sources (Single 0)
 
-at-most : (l : Layout) → bandsOf l ≤ 34
-at-most Bands20 = omega arith
-at-most Bands34 = omega arith
-
 module _ (old new : Layout) (other : sameLayout old new ≡ false) where
   numbers-same : (f g : ℕ → Float) → ((b : ℕ) → b < bandsOf old → f b ≡ g b) → mapCoefficients (tabulate f 34) new ≡ mapCoefficients (tabulate g 34) new
   unfolding mapCoefficients
   numbers-same f g same =
-      ap (held 34 (whole 0)) (sources-same (bandsOf old) (tabulate f 34) (tabulate g 34) at-each (sourcesOf new) (tested old new other))
+      ap (padded 34 (whole 0)) (sources-same (bandsOf old) (tabulate f 34) (tabulate g 34) at-each (sourcesOf new) (tested old new other))
     where
       at-each : (i : ℕ) → i < bandsOf old → coefficientAt (tabulate f 34) i ≡ coefficientAt (tabulate g 34) i
       at-each i u =
-          let inside : i < 34 = omega (arith, at-most old) in
+          let inside : i < 34 = omega (arith, bounds old .bands) in
           tabulate-at f 34 i (whole 0) inside ∙ same i u ∙ sym (tabulate-at g 34 i (whole 0) inside)
 
   pub remapped-same : (kept-here kept-there : ℕ → Kept) → ((b : ℕ) → b < bandsOf old → kept-here b ≡ kept-there b)

@@ -8,32 +8,29 @@ use lib.Dec.{eqb, ltb}
 use Rattle.complex.specs.declared.Complex.{Complex}
 use Rattle.complex.specs.Operations.{sum}
 use Rattle.layout.specs.declared.Layout.{Layout}
-use Rattle.layout.specs.declared.Layout.the-variants.{Bands20, Bands34}
 use Rattle.layout.specs.Numbers.{channelsOf, splitOf, unsplitFromOf}
+use Rattle.layout.proofs.Bounds.{bounds}
 use Rattle.lists.proofs.Maps.{tabulate-same}
 use Rattle.planar.specs.Frame.{qmfRows}
-use Rattle.standard.specs.Hybrid.{filtersOf, prototypeFor, joinedTo, spanOf, bandBelow, hybrid, addedTo, synthesised}
+use Rattle.standard.specs.Hybrid.{filtersOf, prototypeFor, joinedTo, firstChannelOf, bandBelow, hybrid, addedTo, synthesised}
+use Rattle.standard.proofs.Spans.{spans}
 
 -- ---- analysis
 
 below-split : (l : Layout) (k p : ℕ) → bandBelow l k p ≤ p
 below-split l k zero = le-refl 0
-below-split l k (suc p) = go (ltb k (spanOf l (suc p))) (below-split l k p)
+below-split l k (suc p) = go (ltb k (firstChannelOf l (suc p))) (below-split l k p)
   where
     go : (t : Bool) → bandBelow l k p ≤ p → cond t (bandBelow l k p) (suc p) ≤ suc p
     go true h = omega arith
     go false h = le-refl (suc p)
-
-some-split : (l : Layout) → 0 < splitOf l
-some-split Bands20 = omega arith
-some-split Bands34 = omega arith
 
 -- a split band is read in every slot, any other from the frame's first slot on
 pub hybrid-same : (l : Layout) (x y : ℕ → ℕ → Complex) → ((p j : ℕ) → p < splitOf l → x p j ≡ y p j) → ((p j : ℕ) → 6 ≤ j → x p j ≡ y p j)
     → (n k : ℕ) → hybrid l x n k ≡ hybrid l y n k
 unfolding hybrid
 hybrid-same l x y split whole n k =
-    go (bandBelow l k (splitOf l - 1)) (omega (arith, below-split l k (splitOf l - 1), some-split l)) (ltb k (unsplitFromOf l))
+    go (bandBelow l k (splitOf l - 1)) (omega (arith, below-split l k (splitOf l - 1), bounds l .some-split)) (ltb k (unsplitFromOf l))
   where
     go : (p : ℕ) → p < splitOf l → (t : Bool)
         → cond t (joinedTo l p (x p) n k (filtersOf (prototypeFor l p))) (x (k + splitOf l - unsplitFromOf l) (n + 6))
@@ -48,26 +45,6 @@ unfolding addedTo
 added-same y z from zero same = refl
 added-same y z from (suc count) same = ap₂ sum (added-same y z from count (λ i u. same i (omega arith))) (same count (le-refl (suc count)))
 
-span-small : (l : Layout) (p : ℕ) → spanOf l p ≤ unsplitFromOf l
-span-small Bands20 zero = omega arith
-span-small Bands20 (suc zero) = omega arith
-span-small Bands20 (suc (suc zero)) = omega arith
-span-small Bands20 (suc (suc (suc p))) = omega arith
-span-small Bands34 zero = omega arith
-span-small Bands34 (suc zero) = omega arith
-span-small Bands34 (suc (suc zero)) = omega arith
-span-small Bands34 (suc (suc (suc zero))) = omega arith
-span-small Bands34 (suc (suc (suc (suc zero)))) = omega arith
-span-small Bands34 (suc (suc (suc (suc (suc p))))) = omega arith
-
-unsplit-small : (l : Layout) (q : ℕ) → q < 64 → q + unsplitFromOf l - splitOf l < channelsOf l
-unsplit-small Bands20 q h = omega arith
-unsplit-small Bands34 q h = omega arith
-
-some-unsplit : (l : Layout) → unsplitFromOf l ≤ channelsOf l
-some-unsplit Bands20 = omega arith
-some-unsplit Bands34 = omega arith
-
 -- a QMF band reads its own channels: those of the split bands, or its own
 pub synthesised-below : (l : Layout) (bound : ℕ) (y z : ℕ → Complex) → ((k : ℕ) → k < bound → y k ≡ z k) → unsplitFromOf l ≤ bound
     → (q : ℕ) → q + unsplitFromOf l - splitOf l < bound → synthesised l y q ≡ synthesised l z q
@@ -75,13 +52,13 @@ unfolding synthesised
 synthesised-below l bound y z same all q h = go (ltb q (splitOf l))
   where
     go : (t : Bool)
-        → cond t (addedTo y (spanOf l q) (spanOf l (suc q) - spanOf l q)) (y (q + unsplitFromOf l - splitOf l))
-        ≡ cond t (addedTo z (spanOf l q) (spanOf l (suc q) - spanOf l q)) (z (q + unsplitFromOf l - splitOf l))
-    go true = added-same y z (spanOf l q) (spanOf l (suc q) - spanOf l q) (λ i u. same (spanOf l q + i) (omega (arith, span-small l (suc q))))
+        → cond t (addedTo y (firstChannelOf l q) (firstChannelOf l (suc q) - firstChannelOf l q)) (y (q + unsplitFromOf l - splitOf l))
+        ≡ cond t (addedTo z (firstChannelOf l q) (firstChannelOf l (suc q) - firstChannelOf l q)) (z (q + unsplitFromOf l - splitOf l))
+    go true = added-same y z (firstChannelOf l q) (firstChannelOf l (suc q) - firstChannelOf l q) (λ i u. same (firstChannelOf l q + i) (omega (arith, spans l (suc q) .most)))
     go false = same (q + unsplitFromOf l - splitOf l) h
 
 pub synthesised-same : (l : Layout) (y z : ℕ → Complex) → ((k : ℕ) → k < channelsOf l → y k ≡ z k) → (q : ℕ) → q < 64 → synthesised l y q ≡ synthesised l z q
-synthesised-same l y z same q h = synthesised-below l (channelsOf l) y z same (some-unsplit l) q (unsplit-small l q h)
+synthesised-same l y z same q h = let b = bounds l in synthesised-below l (channelsOf l) y z same (omega arith) q (omega arith)
 
 -- the rows of a frame are those of their first slots
 pub rows-same : (slots : ℕ) (y z : ℕ → ℕ → Complex) → ((n q : ℕ) → n < slots → q < 64 → y n q ≡ z n q) → qmfRows slots y ≡ qmfRows slots z

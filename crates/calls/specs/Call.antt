@@ -1,6 +1,6 @@
 -- Annex 8.A.3 and document 01: one call of the decoder, a frame. Assumes nothing.
 use Prim.Native.Nat.{ℕ, _+_, _-_, _*_, _%_, min}
-use mathlib.Core.Bool.{Bool, true, false, not, cond, _&&_, _||_}
+use mathlib.Core.Bool.{Bool, not, cond, _&&_, _||_}
 use mathlib.Core.List.{List, []}
 use lib.Dec.{eqb, leb, ltb}
 use lib.Ieee.{Float, le, neg}
@@ -13,13 +13,15 @@ use Rattle.complex.specs.declared.Complex.{Complex}
 use Rattle.cue.specs.declared.Header.{Header}
 use Rattle.cue.specs.declared.Line.{Line}
 use Rattle.cue.specs.declared.Line.the-variants.{Read, Refused}
+use Rattle.cue.specs.Fields.{fineOf, rbOf}
 use Rattle.cue.specs.Line.{noHeader}
 use Rattle.layout.specs.declared.Layout.{Layout}
+use Rattle.limits.specs.Limits as limits
 use Rattle.lists.specs.All.{all}
 use Rattle.planar.specs.Frame.{qmfAt, qmfRows}
-use Rattle.ps_data.specs.declared.PsIndexState.{PsIndexState}
+use Rattle.ps_data.specs.declared.PsLines.{PsLines}
 use Rattle.ps_data.specs.declared.Resolved.{Resolved}
-use Rattle.ps_data.specs.Indices.{layoutOf, freshIndices, resolveLine}
+use Rattle.ps_data.specs.Indices.{layoutIn, freshLines, resolveLine}
 use Rattle.standard.specs.declared.Modes.{Modes}
 use Rattle.standard.specs.Numbers.{whole}
 use Rattle.standard.specs.Channel.{back, pastAt}
@@ -38,17 +40,16 @@ pub record Call : Type 0 where
   pub left : List Float
   pub right : List Float
 
--- slots of a frame, whether a configuration has come, the rows of indices kept, what came into each QMF band, newest first, and the sound's state
+-- slots of a frame, what the lines so far have left, what came into each QMF band, newest first, and the sound's state
 pub record Playing : Type 0 where
   pub slots : ℕ
-  pub configured : Bool
-  pub indices : PsIndexState
+  pub lines : PsLines
   pub past : ℕ → List Complex
   pub core : Core
 
 -- a decoder made for an asked number of slots
 unfoldable pub fresh : ℕ → Playing
-fresh asked = record { slots = slotsOf asked; configured = false; indices = freshIndices; past = λ p. []; core = core.fresh }
+fresh asked = record { slots = slotsOf asked; lines = freshLines; past = λ p. []; core = core.fresh }
 
 -- ---- the answer
 
@@ -72,13 +73,13 @@ inputAnswer slots input left right = cond (buffersFit slots (length input) left 
 module _ (s : Playing) (c : Call) where
   -- what the line says, with the indices resolved
   abbrev pub resolved : Resolved
-  resolved = resolveLine (s .indices) (c .line)
+  resolved = resolveLine (s .lines) (c .line)
 
   -- document 01's order: the line, quiet, the input
   unfoldable pub answerOf : Line → Answer
   answerOf (Refused a) = a
   answerOf (Read h) =
-      cond (h .cued || s .configured) (inputAnswer (s .slots) (c .input) (length (c .left)) (length (c .right))) Quiet
+      cond (h .cued || s .lines .configured) (inputAnswer (s .slots) (c .input) (length (c .left)) (length (c .right))) Quiet
 
   abbrev pub answer : Answer
   answer = answerOf (resolved .line)
@@ -89,13 +90,8 @@ abbrev pub headerOf : Line → Header
 headerOf (Read h) = h
 headerOf (Refused a) = noHeader
 
--- the fine IID quantiser for iid_mode 3 to 5, procedure Rb for icc_mode 3 to 5, even where the kind is absent
 abbrev pub modesOf : Header → Modes
-modesOf h = record { fine = leb 3 (h .config .iid .mode); rb = leb 3 (h .config .icc .mode); phase = h .phase }
-
--- an empty line leaves the configuration in force, and so the layout
-abbrev pub layoutIn : Layout → Header → Layout
-layoutIn old h = cond (h .cued) (layoutOf (h .config)) old
+modesOf h = record { fine = fineOf (h .config); rb = rbOf (h .config); phase = h .phase }
 
 module _ (s : Playing) (c : Call) where
   abbrev pub header : Header
@@ -111,7 +107,7 @@ module _ (s : Playing) (c : Call) where
         slots = s .slots;
         edge = c .edge;
         empty = not (header .cued);
-        borders = bordersOf (s .slots) (header .variable) (min (header .envelopes) 4) (resolved s c .positions);
+        borders = bordersOf (s .slots) (header .variable) (min (header .envelopes) limits.envelopes) (resolved s c .positions);
         modes = modesOf header;
       }
 
@@ -137,8 +133,7 @@ module _ (s : Playing) (c : Call) where
   after =
       record {
         slots = s .slots;
-        configured = true;
-        indices = resolved s c .state;
+        lines = resolved s c .lines;
         past = λ p. pastAt (pastReady p) (λ n. qmfAt (c .input) n p) (s .slots);
         core = next (s .core) frameOf;
       }

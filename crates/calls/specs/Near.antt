@@ -35,7 +35,6 @@ pub record NearCore (s t : Core) : Type 0 where
 
 pub record Near (s t : Playing) : Type 0 where
   pub slots : s .slots ≡ t .slots
-  pub configured : s .configured ≡ t .configured
-  pub indices : s .indices ≡ t .indices
+  pub lines : s .lines ≡ t .lines
   pub past : (p : ℕ) → p < splitOf (s .core .layout) → Alike 6 (s .past p) (t .past p)
   pub core : NearCore (s .core) (t .core)

@@ -1,3 +1,5 @@
+pub mod Characters
 pub mod Pairs
 pub mod Sizes
-pub mod Times
+pub mod Finding
+pub mod Refusals

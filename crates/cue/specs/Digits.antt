@@ -1,15 +1,18 @@
--- Document 01, 'The cue line': lower-case hexadecimal, two digits a byte, at most 432 bytes. Assumes nothing.
+-- Document 01, 'The cue line': lower-case hexadecimal, two digits a byte. Assumes nothing.
 use Prim.Native.Nat.{ℕ, _+_, _-_, _*_, _%_}
 use mathlib.Core.List.{List, [], _∷_}
-use mathlib.Core.Bool.{Bool, true, false, cond}
-use lib.Dec.{ltb, eqb}
+use mathlib.Core.Bool.{Bool, cond, _&&_, _||_}
+use lib.Dec.{leb, ltb, eqb}
+
+abbrev pub between : ℕ → ℕ → ℕ → Bool
+between low high c = leb low c && leb c high
 
 -- 0 to 9 are the characters 48 to 57, a to f 97 to 102
 abbrev pub isDigit : ℕ → Bool
-isDigit c = cond (ltb c 48) false (cond (ltb c 58) true (cond (ltb c 97) false (ltb c 103)))
+isDigit c = between 48 57 c || between 97 102 c
 
 abbrev pub digitOf : ℕ → ℕ
-digitOf c = cond (ltb c 48) 0 (cond (ltb c 58) (c - 48) (cond (ltb c 97) 0 (cond (ltb c 103) (c - 87) 0)))
+digitOf c = cond (between 48 57 c) (c - 48) (cond (between 97 102 c) (c - 87) 0)
 
 -- two digits a byte
 unfoldable pub bytesOf : List ℕ → List ℕ
@@ -19,4 +22,4 @@ bytesOf (a ∷ b ∷ cs) = (digitOf a * 16 + digitOf b) ∷ bytesOf cs
 
 -- an odd digit count, or that of 1 to 3 bytes
 abbrev pub ragged : ℕ → Bool
-ragged digits = cond (eqb (digits % 2) 1) true (cond (eqb digits 0) false (ltb digits 8))
+ragged digits = eqb (digits % 2) 1 || (ltb 0 digits && ltb digits 8)

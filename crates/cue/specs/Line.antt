@@ -1,19 +1,23 @@
 -- Document 01, 'The cue line': what a line says, or by which answer it is refused, in the order of the refusals. Assumes nothing.
-use Prim.Native.Nat.{ℕ, _/_}
+use Prim.Native.Nat.{ℕ, _*_}
 use mathlib.Core.List.{List}
-use mathlib.Core.Bool.{false, cond}
+use mathlib.Core.Bool.{false, cond, not}
 use lib.Dec.{ltb, eqb}
 use lib.ListN.{length, replicate}
-use Rattle.lists.specs.All.{all}
-use Rattle.lists.specs.Held.{held}
+use Rattle.lists.specs.First.{before}
+use Rattle.lists.specs.Padded.{padded}
+use Rattle.limits.specs.Limits as limits
 use Rattle.answer.specs.declared.Answer.{Answer}
 use Rattle.answer.specs.declared.Answer.the-variants.{Done, Character, Length, Field}
 use Rattle.cue.specs.declared.Header.{Header}
 use Rattle.cue.specs.declared.Line.{Line}
 use Rattle.cue.specs.declared.Line.the-variants.{Read, Refused}
 use Rattle.cue.specs.declared.Cue.{Cue}
+use Rattle.cue.specs.declared.Found.{Found}
+use Rattle.cue.specs.declared.Found.the-variants.{At, Nothing}
 use Rattle.cue.specs.Digits.{isDigit, bytesOf, ragged}
-use Rattle.cue.specs.Fields.{placesOf, headerFits, headerOf, bordersFit, rowsFit}
+use Rattle.cue.specs.Fields.{placesOf, headerOf}
+use Rattle.cue.specs.Checks.{found, headChecks, bodyChecks}
 
 -- the answer of reading: 0 where the line is read
 abbrev pub answerOf : Line → Answer
@@ -31,29 +35,31 @@ noHeader =
       envelopes = 0;
     }
 
-abbrev pub empty : Cue
-empty = record { line = Read noHeader; bytes = replicate 432 0 }
+-- a line that is read, with its bytes
+abbrev pub cueOf : Header → List ℕ → Cue
+cueOf h bytes = record { line = Read h; places = placesOf h; bytes = bytes }
 
--- nothing is held of a refused line
+-- nothing is padded of a refused line
 abbrev pub refused : Answer → Cue
-refused answer = record { line = Refused answer; bytes = replicate 432 0 }
+refused answer = record { line = Refused answer; places = placesOf noHeader; bytes = replicate limits.bytes 0 }
 
--- a line of `count` bytes, held with zeros after them
+-- a byte out of range refuses the line
+abbrev pub inRange : Found → Cue → Cue
+inRange (At place) cue = refused Field
+inRange Nothing cue = cue
+
+-- the bytes of a line of so many digits, zeros after them
 unfoldable pub readBytes : ℕ → List ℕ → Cue
-readBytes count bytes =
-    cond (headerFits bytes)
-    (cond (eqb count (placesOf (headerOf bytes) .end))
-    (cond (bordersFit (headerOf bytes) bytes)
-    (cond (rowsFit (headerOf bytes) bytes) (record { line = Read (headerOf bytes); bytes = bytes }) (refused Field))
-    (refused Field))
-    (refused Length))
-    (refused Field)
+readBytes digits bytes =
+    inRange (found bytes headChecks)
+    (cond (not (eqb digits (2 * placesOf (headerOf bytes) .end))) (refused Length)
+    (inRange (found bytes (bodyChecks (headerOf bytes)))
+    (cueOf (headerOf bytes) bytes)))
 
 unfoldable pub readLine : List ℕ → Cue
 readLine text =
-    cond (ltb 864 (length text)) (refused Length)
-    (cond (all isDigit text)
+    cond (ltb limits.digits (length text)) (refused Length)
+    (cond (ltb (before isDigit text) (length text)) (refused Character)
     (cond (ragged (length text)) (refused Length)
-    (cond (eqb (length text) 0) empty
-    (readBytes (length text / 2) (held 432 0 (bytesOf text)))))
-    (refused Character))
+    (cond (eqb (length text) 0) (cueOf noHeader (replicate limits.bytes 0))
+    (readBytes (length text) (padded limits.bytes 0 (bytesOf text))))))

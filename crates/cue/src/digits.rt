@@ -2,8 +2,9 @@
 ghost use mathlib.Core.Path.{_≡_};
 ghost use Prim.Native.Nat.{_+_, _*_, _≤_, _<_};
 ghost use lib.ListN.{length};
-ghost use Rattle.lists.specs.All.{all};
-ghost use Rattle.lists.specs.Held.{held};
+ghost use Rattle.limits.specs.Limits as limits;
+ghost use Rattle.lists.specs.First.{before};
+ghost use Rattle.lists.specs.Padded.{padded};
 ghost use Rattle.cue.specs.Digits.{isDigit, digitOf, bytesOf, ragged};
 
 fn is_digit(c: u8) -> bool
@@ -25,17 +26,18 @@ fn digit(c: u8) -> u8
     }
 }
 
-pub fn all_digits(text: &[u8]) -> bool
-    ensures { λ r. ⌜ r ≡ all isDigit (now (text .entry)) ⌝ }
+// The place of the first character that is no digit, or the end.
+pub fn first_other(text: &[u8]) -> usize
+    ensures { λ r. ⌜ r ≡ before isDigit (now (text .entry)) ⌝ }
 {
     let mut i = 0;
     while i < text.len() {
         if !is_digit(text[i]) {
-            return false;
+            return i;
         }
         i += 1;
     }
-    true
+    i
 }
 
 fn byte(high: u8, low: u8) -> u8
@@ -44,11 +46,11 @@ fn byte(high: u8, low: u8) -> u8
     digit(high) * 16 + digit(low)
 }
 
-pub fn bytes(text: &[u8]) -> [u8; 432]
-    requires { ⌜ length (now text) ≤ 864 ⌝ }
-    ensures { λ r. ⌜ r ≡ held 432 0 (bytesOf (now (text .entry))) ⌝ }
+pub fn bytes(text: &[u8]) -> [u8; limits::BYTES]
+    requires { ⌜ length (now text) ≤ limits.digits ⌝ }
+    ensures { λ r. ⌜ r ≡ padded limits.bytes 0 (bytesOf (now (text .entry))) ⌝ }
 {
-    let mut out = [0u8; 432];
+    let mut out = [0u8; limits::BYTES];
     let count = text.len() / 2;
     let mut i = 0;
     while i < count {

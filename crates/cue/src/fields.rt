@@ -1,14 +1,15 @@
-// Bytes 0 to 3, and the rest of the line as far as it must be in range.
+// Bytes 0 to 3, what stands where after them, and the first of a line's bytes that is out of range.
+use super::Block;
 use super::Config;
+use super::Found;
 use super::Header;
 use super::Parameter;
 use super::Places;
 ghost use mathlib.Core.Path.{_≡_};
-ghost use Prim.Native.Nat.{_≤_};
-ghost use lib.Dec.{leb};
-ghost use lib.ListN.{length, getD, drop};
-ghost use Rattle.lists.specs.All.{all};
-ghost use Rattle.cue.specs.Fields.{byMode, bordersSize, rowsSize, placesOf, headerFits, headerOf, bordersFit, timesFit, kindFits, rowsFit};
+ghost use Prim.Native.Nat.{_+_, _≤_};
+ghost use lib.ListN.{getD};
+ghost use Rattle.cue.specs.Checks.{found, every, headChecks, timeChecks, bodyChecks};
+ghost use Rattle.cue.specs.Fields.{byMode, bordersSize, rowsIn, behind, placesOf, headerOf};
 
 // One of three numbers, by mode modulo 3.
 pub fn by_mode(mode: u8, a: usize, b: usize, c: usize) -> usize
@@ -24,60 +25,7 @@ pub fn by_mode(mode: u8, a: usize, b: usize, c: usize) -> usize
     c
 }
 
-// The bytes of a kind: for each envelope a time byte and its deltas.
-fn rows_size(present: bool, envelopes: u8, count: usize) -> usize
-    requires { ⌜ count ≤ 34 ⌝ }
-    ensures { λ r. ⌜ (r ≡ rowsSize present envelopes count) × (r ≤ 8925) ⌝ }
-{
-    if present {
-        (envelopes as usize) * (count + 1)
-    } else {
-        0
-    }
-}
-
-fn borders_size(variable: bool, envelopes: u8) -> usize
-    ensures { λ r. ⌜ (r ≡ bordersSize variable envelopes) × (r ≤ 255) ⌝ }
-{
-    if variable { envelopes as usize } else { 0 }
-}
-
-pub fn places(h: Header) -> Places
-    ensures { λ r. ⌜ r ≡ placesOf h ⌝ }
-{
-    let config = h.config;
-    let left = config.iid;
-    let coherence = config.icc;
-    let phases = config.phase_count();
-    let iid = 4 + borders_size(h.variable, h.envelopes);
-    let icc = iid + rows_size(left.present, h.envelopes, left.count());
-    let ipd = icc + rows_size(coherence.present, h.envelopes, coherence.count());
-    let size = rows_size(h.phase, h.envelopes, phases);
-    Places {
-        iid: iid,
-        icc: icc,
-        ipd: ipd,
-        opd: ipd + size,
-        end: ipd + size + size,
-    }
-}
-
-pub fn header_fits(bytes: &[u8; 432]) -> bool
-    ensures { λ r. ⌜ r ≡ headerFits (now (bytes .entry)) ⌝ }
-{
-    if 15 < bytes[0] {
-        return false;
-    }
-    if 5 < bytes[1] {
-        return false;
-    }
-    if 5 < bytes[2] {
-        return false;
-    }
-    bytes[3] <= 4
-}
-
-pub fn header(bytes: &[u8; 432]) -> Header
+pub fn header(bytes: &[u8; limits::BYTES]) -> Header
     ensures { λ r. ⌜ r ≡ headerOf (now (bytes .entry)) ⌝ }
 {
     let flags = bytes[0];
@@ -99,30 +47,80 @@ pub fn header(bytes: &[u8; 432]) -> Header
     }
 }
 
-fn all_borders_fit(borders: &[u8]) -> bool
-    ensures { λ r. ⌜ r ≡ all (λ b. leb b 31) (now (borders .entry)) ⌝ }
+fn borders_size(h: Header) -> usize
+    ensures { λ r. ⌜ (r ≡ bordersSize h) × (r ≤ 255) ⌝ }
 {
-    let mut i = 0;
-    while i < borders.len() {
-        if 31 < borders[i] {
-            return false;
-        }
-        i += 1;
-    }
-    true
+    if h.variable { h.envelopes as usize } else { 0 }
 }
 
-// The borders stand from byte 4 on.
-pub fn borders_fit(h: Header, bytes: &[u8]) -> bool
-    requires { ⌜ 432 ≤ length (now bytes) ⌝ }
-    ensures { λ r. ⌜ r ≡ bordersFit h (now (bytes .entry)) ⌝ }
+// The rows of a kind.
+fn rows_in(envelopes: u8, kind: Block) -> usize
+    ensures { λ r. ⌜ (r ≡ rowsIn envelopes kind) × (r ≤ 255) ⌝ }
 {
-    if h.variable {
-        let end = 4 + (h.envelopes as usize);
-        all_borders_fit(&bytes[4..end])
-    } else {
-        true
+    if kind.present { envelopes as usize } else { 0 }
+}
+
+// The place behind a kind.
+fn end(envelopes: u8, kind: Block) -> usize
+    requires { ⌜ (kind .place ≤ 65536) × (kind .count ≤ 34) ⌝ }
+    ensures { λ r. ⌜ (r ≡ behind envelopes kind) × (r ≤ kind .place + 8925) ⌝ }
+{
+    kind.place + rows_in(envelopes, kind) * (kind.count + 1)
+}
+
+pub fn places(h: Header) -> Places
+    ensures { λ r. ⌜ r ≡ placesOf h ⌝ }
+{
+    let config = h.config;
+    let first = config.iid;
+    let second = config.icc;
+    let iid = Block {
+        present: first.present,
+        count: first.count(),
+        place: 4 + borders_size(h),
+    };
+    let icc = Block {
+        present: second.present,
+        count: second.count(),
+        place: end(h.envelopes, iid),
+    };
+    let phases = config.phase_count();
+    let ipd = Block {
+        present: h.phase,
+        count: phases,
+        place: end(h.envelopes, icc),
+    };
+    let opd = Block {
+        present: h.phase,
+        count: phases,
+        place: end(h.envelopes, ipd),
+    };
+    Places {
+        iid: iid,
+        icc: icc,
+        ipd: ipd,
+        opd: opd,
+        end: end(h.envelopes, opd),
     }
+}
+
+// Of bytes 0 to 3.
+pub fn first_bad_head(bytes: &[u8; limits::BYTES]) -> Found
+    ensures { λ r. ⌜ r ≡ found (now (bytes .entry)) headChecks ⌝ }
+{
+    if 15 < bytes[0] {
+        return Found::At(0);
+    }
+    if 5 < bytes[1] {
+        return Found::At(1);
+    }
+    if 5 < bytes[2] {
+        return Found::At(2);
+    }
+    if limits::ENVELOPES < limits::wide(bytes[3]) {
+        return Found::At(3);
+    }
+    Found::Nothing
 }
 
 // The byte at a place, 0 past the end.
@@ -132,57 +130,61 @@ fn at(bytes: &[u8], i: usize) -> u8
     if i < bytes.len() { bytes[i] } else { 0 }
 }
 
-// The time bytes of a kind whose rows start at a place.
-fn times_fit(bytes: &[u8], place: usize, envelopes: usize, count: usize) -> bool
-    requires { ⌜ (place ≤ 65536) × (envelopes ≤ 255) × (count ≤ 34) ⌝ }
-    ensures { λ r. ⌜ r ≡ timesFit envelopes count (drop place (now (bytes .entry))) ⌝ }
+// Of `count` bytes that stand `apart` bytes apart, the first that is above `most`.
+fn first_over(bytes: &[u8], place: usize, apart: usize, count: usize, most: u8) -> Found
+    requires { ⌜ (place ≤ 65536) × (apart ≤ 35) × (count ≤ 255) ⌝ }
+    ensures { λ r. ⌜ r ≡ found (now (bytes .entry)) (every most count apart place) ⌝ }
 {
     let mut here = place;
-    let mut e = 0;
-    while e < envelopes {
-        if 1 < at(bytes, here) {
-            return false;
+    let mut i = 0;
+    while i < count {
+        if most < at(bytes, here) {
+            return Found::At(here);
         }
-        here += count + 1;
-        e += 1;
+        here += apart;
+        i += 1;
     }
-    true
+    Found::Nothing
 }
 
-fn kind_fits(present: bool, envelopes: usize, count: usize, bytes: &[u8], place: usize) -> bool
-    requires { ⌜ (place ≤ 65536) × (envelopes ≤ 255) × (count ≤ 34) ⌝ }
-    ensures { λ r. ⌜ r ≡ kindFits present envelopes count (now (bytes .entry)) place ⌝ }
+// Of the time bytes of a kind.
+fn first_bad_time(envelopes: u8, kind: Block, bytes: &[u8]) -> Found
+    requires { ⌜ (kind .place ≤ 65536) × (kind .count ≤ 34) ⌝ }
+    ensures { λ r. ⌜ r ≡ found (now (bytes .entry)) (timeChecks envelopes kind) ⌝ }
 {
-    if present {
-        times_fit(bytes, place, envelopes, count)
-    } else {
-        true
-    }
-}
-
-pub fn rows_fit(h: Header, bytes: &[u8]) -> bool
-    ensures { λ r. ⌜ r ≡ rowsFit h (now (bytes .entry)) ⌝ }
-{
-    let at = places(h);
-    let envelopes = h.envelopes as usize;
-    let config = h.config;
-    let left = config.iid;
-    if !kind_fits(left.present, envelopes, left.count(), bytes, at.iid) {
-        return false;
-    }
-    let coherence = config.icc;
-    if !kind_fits(
-        coherence.present,
-        envelopes,
-        coherence.count(),
+    first_over(
         bytes,
-        at.icc,
-    ) {
-        return false;
-    }
-    let phases = config.phase_count();
-    if !kind_fits(h.phase, envelopes, phases, bytes, at.ipd) {
-        return false;
-    }
-    kind_fits(h.phase, envelopes, phases, bytes, at.opd)
+        kind.place,
+        kind.count + 1,
+        rows_in(envelopes, kind),
+        1,
+    )
+}
+
+// Of the borders, then of the time bytes, kind after kind.
+pub fn first_bad_field(h: Header, at: Places, bytes: &[u8; limits::BYTES]) -> Found
+    requires { ⌜ at ≡ placesOf h ⌝ }
+    ensures { λ r. ⌜ r ≡ found (now (bytes .entry)) (bodyChecks h) ⌝ }
+{
+    let border = first_over(bytes, 4, 1, borders_size(h), 31);
+    let Found::Nothing = border else {
+        return border;
+    };
+    let iid = at.iid;
+    let iid_time = first_bad_time(h.envelopes, iid, bytes);
+    let Found::Nothing = iid_time else {
+        return iid_time;
+    };
+    let icc = at.icc;
+    let icc_time = first_bad_time(h.envelopes, icc, bytes);
+    let Found::Nothing = icc_time else {
+        return icc_time;
+    };
+    let ipd = at.ipd;
+    let ipd_time = first_bad_time(h.envelopes, ipd, bytes);
+    let Found::Nothing = ipd_time else {
+        return ipd_time;
+    };
+    let opd = at.opd;
+    first_bad_time(h.envelopes, opd, bytes)
 }

@@ -1,12 +1,14 @@
-// The cue line of document 01: one frame's stereo parameters in hexadecimal. Reading a line gives its header and bytes, or a refusal; the rows of
-// deltas after the header are left to ps_data.
+// The cue line of document 01: one frame's stereo parameters in hexadecimal. Reading a line gives its header, the places of its rows and its bytes, or a
+// refusal; the rows of deltas after the header are left to ps_data.
 mod digits;
 mod fields;
 
 use answer::Answer;
 ghost use mathlib.Core.Path.{_≡_};
-ghost use Rattle.cue.specs.Fields.{countOf, phaseCountOf, placesOf};
-ghost use Rattle.cue.specs.Line.{answerOf, empty, refused, readBytes, readLine};
+ghost use lib.ListN.{replicate};
+ghost use Rattle.limits.specs.Limits as limits;
+ghost use Rattle.cue.specs.Fields.{parametersOf, countOf, phaseCountOf, fineOf, rbOf, placesOf};
+ghost use Rattle.cue.specs.Line.{answerOf, noHeader, cueOf, refused, readBytes, readLine};
 
 // A kind of parameter: whether the frame brings it, and its mode.
 pub struct Parameter {
@@ -29,12 +31,19 @@ pub struct Header {
     pub envelopes: u8,
 }
 
-// Where the rows of each kind start in the bytes, and where the line ends.
+// The rows of a kind in a line: whether they are there, how many deltas each has, and the byte at which the first row begins.
+pub struct Block {
+    pub present: bool,
+    pub count: usize,
+    pub place: usize,
+}
+
+// The rows of each kind, and where the line ends.
 pub struct Places {
-    pub iid: usize,
-    pub icc: usize,
-    pub ipd: usize,
-    pub opd: usize,
+    pub iid: Block,
+    pub icc: Block,
+    pub ipd: Block,
+    pub opd: Block,
     pub end: usize,
 }
 
@@ -43,10 +52,17 @@ pub enum Line {
     Refused(Answer),
 }
 
-// A line and its bytes, with zeros after them.
+// A line, where its rows stand, and its bytes with zeros after them.
 pub struct Cue {
     pub line: Line,
-    pub bytes: [u8; 432],
+    pub places: Places,
+    pub bytes: [u8; limits::BYTES],
+}
+
+// The place of the first byte that is out of range.
+enum Found {
+    At(usize),
+    Nothing,
 }
 
 impl Line {
@@ -61,15 +77,18 @@ impl Line {
 }
 
 impl Parameter {
+    // Parameters of an envelope by the mode, whether or not the kind is there.
+    pub fn parameters(self) -> usize
+        ensures { λ r. ⌜ r ≡ parametersOf self ⌝ }
+    {
+        fields::by_mode(self.mode, 10, 20, 34)
+    }
+
     // Parameters of an envelope.
     pub fn count(self) -> usize
         ensures { λ r. ⌜ r ≡ countOf self ⌝ }
     {
-        if self.present {
-            fields::by_mode(self.mode, 10, 20, 34)
-        } else {
-            0
-        }
+        if self.present { self.parameters() } else { 0 }
     }
 }
 
@@ -84,27 +103,24 @@ impl Config {
             0
         }
     }
-}
 
-impl Header {
-    pub fn places(self) -> Places
-        ensures { λ r. ⌜ r ≡ placesOf self ⌝ }
+    // Whether IID goes by the fine quantiser.
+    pub fn fine(self) -> bool
+        ensures { λ r. ⌜ r ≡ fineOf self ⌝ }
     {
-        fields::places(self)
+        3 <= self.iid.mode
+    }
+
+    // Whether the mixing goes by procedure Rb.
+    pub fn rb(self) -> bool
+        ensures { λ r. ⌜ r ≡ rbOf self ⌝ }
+    {
+        3 <= self.icc.mode
     }
 }
 
-fn refuse(answer: Answer) -> Cue
-    ensures { λ r. ⌜ r ≡ refused answer ⌝ }
-{
-    Cue {
-        line: Line::Refused(answer),
-        bytes: [0u8; 432],
-    }
-}
-
-fn no_cue() -> Cue
-    ensures { λ r. ⌜ r ≡ empty ⌝ }
+fn no_header() -> Header
+    ensures { λ r. ⌜ r ≡ noHeader ⌝ }
 {
     let absent = Parameter {
         present: false,
@@ -114,39 +130,54 @@ fn no_cue() -> Cue
         iid: absent,
         icc: absent,
     };
-    let header = Header {
+    Header {
         cued: false,
         config: config,
         variable: false,
         phase: false,
         envelopes: 0,
-    };
-    Cue {
-        line: Line::Read(header),
-        bytes: [0u8; 432],
     }
 }
 
-// The fields of a line of so many bytes.
-fn read_bytes(count: usize, bytes: [u8; 432]) -> Cue
-    ensures { λ r. ⌜ r ≡ readBytes count bytes ⌝ }
+fn refuse(answer: Answer) -> Cue
+    ensures { λ r. ⌜ r ≡ refused answer ⌝ }
 {
-    if !fields::header_fits(&bytes) {
-        return refuse(Answer::Field);
+    Cue {
+        line: Line::Refused(answer),
+        places: fields::places(no_header()),
+        bytes: [0u8; limits::BYTES],
     }
-    let header = fields::header(&bytes);
-    let places = fields::places(header);
-    if count != places.end {
-        return refuse(Answer::Length);
-    }
-    if !fields::borders_fit(header, &bytes) {
-        return refuse(Answer::Field);
-    }
-    if !fields::rows_fit(header, &bytes) {
-        return refuse(Answer::Field);
-    }
+}
+
+fn no_cue() -> Cue
+    ensures { λ r. ⌜ r ≡ cueOf noHeader (replicate limits.bytes 0) ⌝ }
+{
+    let header = no_header();
     Cue {
         line: Line::Read(header),
+        places: fields::places(header),
+        bytes: [0u8; limits::BYTES],
+    }
+}
+
+// The fields of a line of so many digits.
+fn read_bytes(digits: usize, bytes: [u8; limits::BYTES]) -> Cue
+    ensures { λ r. ⌜ r ≡ readBytes digits bytes ⌝ }
+{
+    let Found::Nothing = fields::first_bad_head(&bytes) else {
+        return refuse(Answer::Field);
+    };
+    let header = fields::header(&bytes);
+    let places = fields::places(header);
+    if digits != 2 * places.end {
+        return refuse(Answer::Length);
+    }
+    let Found::Nothing = fields::first_bad_field(header, places, &bytes) else {
+        return refuse(Answer::Field);
+    };
+    Cue {
+        line: Line::Read(header),
+        places: places,
         bytes: bytes,
     }
 }
@@ -156,10 +187,10 @@ pub fn read(text: &[u8]) -> Cue
     ensures { λ r. ⌜ r ≡ readLine (now (text .entry)) ⌝ }
 {
     let digits = text.len();
-    if 864 < digits {
+    if limits::DIGITS < digits {
         return refuse(Answer::Length);
     }
-    if !digits::all_digits(text) {
+    if digits::first_other(text) < digits {
         return refuse(Answer::Character);
     }
     if digits::is_ragged(digits) {
@@ -169,5 +200,5 @@ pub fn read(text: &[u8]) -> Cue
         return no_cue();
     }
     let bytes = digits::bytes(text);
-    read_bytes(digits / 2, bytes)
+    read_bytes(digits, bytes)
 }

@@ -6,23 +6,20 @@ use cue::Line;
 use libc::STDERR_FILENO;
 use libc::STDIN_FILENO;
 use libc::STDOUT_FILENO;
-use ps_data::PsIndexState;
 use ps_data::PsIndices;
-ghost use Prim.Native.Nat.{_≤_};
-ghost use lib.ListN.{length};
+use ps_data::PsLines;
 
-// What is carried from line to line: the decoder's part, the number of the last line, how much is held of the line that has begun, and whether all was
-// written so far.
+// What is carried from line to line: what the lines so far have left, the number of the last line, how many characters the line that has begun has had, and whether all
+// was written so far.
 struct Listing {
-    state: PsIndexState,
-    configured: bool,
+    lines: PsLines,
     number: u64,
-    used: usize,
+    count: u64,
     written: bool,
 }
 
 fn write_line(number: u64, answer: u8, indices: PsIndices) -> bool {
-    let mut out = [0u8; 4096];
+    let mut out = [0u8; text::LONGEST];
     let used = text::put_line(&mut out, number, answer, indices);
     io::write_all(STDOUT_FILENO, &out[..used])
 }
@@ -30,64 +27,33 @@ fn write_line(number: u64, answer: u8, indices: PsIndices) -> bool {
 // One line of the input, without its newline.
 fn list_line(before: Listing, line: &[u8]) -> Listing {
     let number = std::num::wrapping_add_u64(before.number, 1);
-    let state = before.state;
-    let got = ps_data::resolve(state, line);
-    let said = got.line;
+    let lines = before.lines;
+    let got = ps_data::resolve(lines, line);
+    let read = got.line;
     let indices = got.indices;
-    let Line::Read(header) = said else {
-        let refusal = said.answer();
+    let Line::Read(header) = read else {
+        let refusal = read.answer();
         let written = write_line(number, refusal.number(), indices);
         let mut after = before;
         after.number = number;
-        after.used = 0;
+        after.count = 0;
         after.written = before.written & written;
         return after;
     };
-    let answer = ps_data::read_answer(header, before.configured);
+    let answer = ps_data::read_answer(header, lines.configured);
     let written = write_line(number, answer.number(), indices);
-    let kept = got.state;
+    let after = got.lines;
     Listing {
-        state: kept,
-        configured: before.configured | header.cued,
+        lines: after,
         number: number,
-        used: 0,
+        count: 0,
         written: before.written & written,
     }
 }
 
-// Holds as much of a part of a line as there is room for, and answers how much is held.
-fn hold(line: &mut [u8], used: usize, part: &[u8]) -> usize {
-    let mut place = used;
-    let mut i = 0;
-    while i < part.len() {
-        if place < line.len() {
-            line[place] = part[i];
-            place += 1;
-        }
-        i += 1;
-    }
-    place
-}
-
-// The place of the first newline from a place on, or the end.
-fn line_end(input: &[u8], from: usize) -> usize
-    requires { ⌜ from ≤ length (now input) ⌝ }
-    ensures { λ r. ⌜ (from ≤ r) × (r ≤ length (now (input .entry))) ⌝ }
-{
-    let mut i = from;
-    while i < input.len() {
-        if input[i] == b'\n' {
-            return i;
-        }
-        i += 1;
-    }
-    i
-}
-
 // The line that has begun is complete.
 fn end_line(before: Listing, line: &[u8]) -> Listing {
-    let used = text::least(before.used, line.len());
-    list_line(before, &line[..used])
+    list_line(before, text_lines::held(line, before.count))
 }
 
 // A piece of the input: the lines that end in it, and the beginning of the next.
@@ -95,13 +61,11 @@ fn list_input(before: Listing, line: &mut [u8], input: &[u8]) -> Listing {
     let mut listing = before;
     let mut from = 0;
     while from < input.len() {
-        let end = line_end(input, from);
-        listing.used = hold(line, listing.used, &input[from..end]);
-        if end < input.len() {
-            from = end + 1;
+        let step = text_lines::step(line, listing.count, input, from);
+        from = step.next;
+        listing.count = step.count;
+        if step.ended {
             listing = end_line(listing, line);
-        } else {
-            from = end;
         }
     }
     listing
@@ -118,29 +82,28 @@ fn conclude(written: bool) {
 }
 
 fn main() {
-    // A line of more than 864 characters is refused whatever they are, so one more than that is all that is held of it.
-    let mut line = [0u8; 865];
+    // A line of more characters than the longest has is refused whatever they are, so one more than that is all that is held of it.
+    let mut line = [0u8; limits::DIGITS + 1];
     let mut input = io::large_buffer();
     let mut listing = Listing {
-        state: ps_data::fresh(),
-        configured: false,
+        lines: ps_data::fresh(),
         number: 0,
-        used: 0,
+        count: 0,
         written: true,
     };
     // A proved loop has to end: no input uses up these turns.
     let mut turns = u64::MAX;
     while turns > 0 {
         let got = libc::read(STDIN_FILENO, &mut input);
-        let count = io::count(got, &input);
-        if count == 0 {
+        let used = io::count(got, &input);
+        if used == 0 {
             turns = 0;
         } else {
-            listing = list_input(listing, &mut line, &input[..count]);
+            listing = list_input(listing, &mut line, &input[..used]);
             turns -= 1;
         }
     }
-    if 0 < listing.used {
+    if 0 < listing.count {
         listing = end_line(listing, &line);
     }
     conclude(listing.written);

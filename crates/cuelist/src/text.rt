@@ -1,10 +1,13 @@
-// A line of output, put together in lent memory. A longest line has four kinds of four rows of 34 indices, some 2,300 bytes.
+// A line of output, put together in lent memory.
 use ps_data::PsIndices;
 use ps_rows::Row;
 use ps_rows::Rows;
-ghost use mathlib.Core.Path.{_≡_};
-ghost use Prim.Native.Nat.{_≤_, min};
+ghost use Prim.Native.Nat.{_≤_};
 ghost use lib.ListN.{length};
+
+// No line is longer: two numbers, a space and a newline, of at most 20, 3, 1 and 1 characters; then for each envelope the rows of four kinds, each with a
+// word of 4 characters and at most 34 indices of at most 5 with their space.
+pub const LONGEST: usize = 25 + 4 * (4 + 34 * 5) * limits::ENVELOPES;
 
 // Each function puts its text at a place and answers the place after it.
 fn put(out: &mut [u8], at: usize, byte: u8) -> usize
@@ -61,18 +64,12 @@ fn put_index(out: &mut [u8], at: usize, index: i8) -> usize
     put_number(out, at, magnitude(index))
 }
 
-pub fn least(a: usize, b: usize) -> usize
-    ensures { λ r. ⌜ r ≡ min a b ⌝ }
-{
-    if a < b { a } else { b }
-}
-
 fn put_row(out: &mut [u8], at: usize, row: Row) -> usize
     requires { ⌜ at ≤ length (now out) ⌝ }
     ensures { λ r. ⌜ r ≤ length (now (out .entry)) ⌝ }
 {
     let indices = row.at;
-    let used = least(row.used as usize, 34);
+    let used = limits::least(row.used as usize, 34);
     let mut place = at;
     let mut b: usize = 0;
     while b < used {
@@ -89,7 +86,7 @@ fn put_rows(out: &mut [u8], at: usize, word: &[u8], rows: Rows) -> usize
     ensures { λ r. ⌜ r ≤ length (now (out .entry)) ⌝ }
 {
     let row = rows.row;
-    let used = least(rows.used as usize, 4);
+    let used = limits::least(rows.used as usize, limits::ENVELOPES);
     let mut place = at;
     let mut e: usize = 0;
     while e < used {
@@ -106,7 +103,7 @@ fn put_head(out: &mut [u8], number: u64, answer: u8) -> usize
 {
     let mut at = put_number(out, 0, number);
     at = put(out, at, b' ');
-    put(out, at, b'0' + answer % 10)
+    put_number(out, at, answer as u64)
 }
 
 fn put_kinds(

@@ -2,7 +2,7 @@
 use mathlib.Core.Path.{_≡_, refl, ap, subst}
 use mathlib.Core.Bool.{Bool, true, false, cond}
 use Prim.Native.Nat.{ℕ, _-_, _%_, _<_}
-use native.Mathlib.Nat.{le-refl, mod-lt}
+use native.Mathlib.Nat.{le-refl}
 use native.Mathlib.Omega.{arith}
 use borrow.Author.Tests.{le-ltb, lt-ltb}
 use lib.IntN.{ℤ, pos, negsuc}
@@ -12,7 +12,6 @@ use mir.Val.{toZ}
 use mir.Facts.{sfits-toZ}
 use Rattle.integers.specs.Integers.{byteZ, clampZ, wrapZ}
 use Rattle.integers.proofs.Signs.{not-negative, negative}
-use Rattle.integers.proofs.Sizes.{between}
 
 -- ---- clamp
 -- what holds of lo, of hi and of a number between them holds of a clamp
@@ -29,19 +28,12 @@ not-below-itself (pos n) = le-ltb n n (le-refl n)
 not-below-itself (negsuc n) = le-ltb n n (le-refl n)
 
 module _ (lo hi z : ℤ) where
-  pub mag-clamp : (n : ℕ) → mag lo < n → mag hi < n → mag (clampZ lo hi z) < n
-  mag-clamp n a b = clamped (λ (y : ℤ). mag y < n) lo hi z a b (λ p q. between lo hi z n p q a b)
-
   -- no less than lo, and no more than hi, where those two are in order
   pub clamp-low : ltZ hi lo ≡ false → ltZ (clampZ lo hi z) lo ≡ false
   clamp-low h = clamped (λ (y : ℤ). ltZ y lo ≡ false) lo hi z (not-below-itself lo) h (λ p q. p)
 
   pub clamp-high : ltZ hi lo ≡ false → ltZ hi (clampZ lo hi z) ≡ false
   clamp-high h = clamped (λ (y : ℤ). ltZ hi y ≡ false) lo hi z h (not-below-itself hi) (λ p q. q)
-
-  -- a number between them stays
-  pub clamp-kept : ltZ z lo ≡ false → ltZ hi z ≡ false → clampZ lo hi z ≡ z
-  clamp-kept p q = simp (p, q)
 
 -- ---- wrap: the remainder, by the sign; never negative, and below 8
 pub wrap-negative : (z : ℤ) → ltZ z (pos 0) ≡ true → wrapZ z ≡ pos (7 - mag z % 8)
@@ -53,10 +45,6 @@ wrap-not-negative z h = ap wrapZ (not-negative z h)
 pub wrap-low : (z : ℤ) → ltZ (wrapZ z) (pos 0) ≡ false
 wrap-low (pos n) = le-ltb (n % 8) 0 (omega arith)
 wrap-low (negsuc n) = le-ltb (7 - n % 8) 0 (omega arith)
-
-pub mag-wrap : (z : ℤ) → mag (wrapZ z) < 8
-mag-wrap (pos n) = mod-lt n (omega arith)
-mag-wrap (negsuc n) = omega arith
 
 -- ---- byte: a cast of a u8 to an i8
 pub byte-is : (d : ℕ) → d < 256 → toZ w8 d ≡ byteZ d

@@ -20,12 +20,21 @@ table =
     ∷ (wrapZ (negsuc 0), pos 7)
     ∷ (wrapZ (negsuc 7), pos 0)
     ∷ (wrapZ (negsuc 8), pos 7)
-    ∷ (toZero (pos 3) 2, pos 1)
+    ∷ (toZero (pos 0) 2, pos 0)
     ∷ (toZero (negsuc 0) 2, pos 0)
+    ∷ (toZero (negsuc 0) 3, pos 0)
+    ∷ (toZero (negsuc 0) 4, pos 0)
+    ∷ (toZero (pos 3) 2, pos 1)
     ∷ (toZero (negsuc 1) 2, negsuc 0)
     ∷ (toZero (negsuc 2) 2, negsuc 0)
     ∷ (toZero (negsuc 4) 3, negsuc 0)
     ∷ (toZero (negsuc 6) 4, negsuc 0)
+    ∷ (toZero (pos 30) 2, pos 15)
+    ∷ (toZero (negsuc 29) 2, negsuc 14)
+    ∷ (toZero (pos 45) 3, pos 15)
+    ∷ (toZero (negsuc 44) 3, negsuc 14)
+    ∷ (toZero (pos 60) 4, pos 15)
+    ∷ (toZero (negsuc 59) 4, negsuc 14)
     ∷ []
 
 samples : map (λ r. r .0) table ≡ map (λ r. r .1) table

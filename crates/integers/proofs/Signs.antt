@@ -1,7 +1,7 @@
 -- A number's sign, by the test that the code makes, says which of the two forms it has. Assumes nothing.
 use mathlib.Core.Path.{_≡_, refl, ap, sym, _∙_}
 use mathlib.Core.Bool.{true, false, true≢false}
-use Prim.Native.Nat.{ℕ, zero, suc, _-_, _≤_}
+use Prim.Native.Nat.{ℕ, suc, _-_, _≤_}
 use native.Mathlib.Omega.{arith}
 use borrow.Author.Tests.{le-ltb}
 use lib.IntN.{ℤ, pos, negsuc, subℕ, _-ℤ_}
@@ -10,10 +10,6 @@ use lib.Signed.{mag, ltZ}
 -- ---- a difference of two naturals that is no less than 0
 pub sub-pos : (a b : ℕ) → b ≤ a → subℕ a b ≡ pos (a - b)
 sub-pos a b h = simp (le-ltb a b h)
-
-pub pos-minus : (a b : ℕ) → b ≤ a → pos a -ℤ pos b ≡ pos (a - b)
-pos-minus a zero h = ap pos (omega arith)
-pos-minus a (suc b) h = sub-pos a (suc b) h
 
 -- ---- a number that is not below 0, one that is, and one that is turned over: -1 - z
 pub not-negative : (z : ℤ) → ltZ z (pos 0) ≡ false → z ≡ pos (mag z)

@@ -1,13 +1,13 @@
--- How large a sum, a difference, a product or a quotient can be. A number n and its opposite less one, -(n + 1), have the size n, so that a range of bits is one bound. Assumes nothing.
+-- How large a sum, a difference or a multiple can be. A number n and its opposite less one, -(n + 1), have the size n, so that a range of bits is one bound. Assumes nothing.
 use mathlib.Core.Path.{_≡_}
 use mathlib.Core.Bool.{Bool, true, false, cond, true≢false}
-use Prim.Native.Nat.{ℕ, zero, suc, _+_, _*_, _-_, _/_, _≤_, _<_}
-use native.Mathlib.Nat.{div-le-self, mul-le-mul, le-refl, suc-mul, mul-suc}
+use Prim.Native.Nat.{ℕ, zero, suc, _+_, _*_, _-_, _≤_, _<_}
+use native.Mathlib.Nat.{mul-suc}
 use native.Mathlib.Omega.{arith}
 use borrow.Author.Tests.{ltb-false}
 use lib.Dec.{ltb}
 use lib.IntN.{ℤ, pos, negsuc, subℕ, negℤ, _+ℤ_, _-ℤ_, _*ℤ_}
-use lib.Signed.{mag, ltZ, quotZ}
+use lib.Signed.{mag, ltZ}
 
 -- ---- of a difference of naturals, and of the opposite of one
 mag-pick : (t : Bool) (x y n : ℕ) → x ≤ n → y ≤ n → mag (cond t (negsuc x) (pos y)) ≤ n
@@ -36,20 +36,10 @@ mag-minus (negsuc a) (pos zero) = mag-sub 0 (suc a) (suc (a + 0)) (omega arith) 
 mag-minus (negsuc a) (pos (suc b)) = omega arith
 mag-minus (negsuc a) (negsuc b) = mag-sub (suc b) (suc a) (suc (a + b)) (omega arith) (omega arith)
 
-pub mag-times : (a b : ℤ) → mag (a *ℤ b) ≤ suc (mag a) * suc (mag b)
-mag-times (pos a) (pos b) = mul-le-mul (omega arith) (omega arith)
-mag-times (pos a) (negsuc b) = mag-neg (a * suc b) (suc a * suc b) (omega (arith, suc-mul a (suc b)))
-mag-times (negsuc a) (pos b) = mag-neg (suc a * b) (suc a * suc b) (omega (arith, mul-suc (suc a) b))
-mag-times (negsuc a) (negsuc b) = le-refl (suc a * suc b)
-
 -- a number of times, which is less than a product of two unknowns
 pub mag-scaled : (n : ℕ) (z : ℤ) → mag (pos n *ℤ z) ≤ n * mag z + (n - 1)
 mag-scaled n (pos a) = omega arith
 mag-scaled n (negsuc a) = mag-neg (n * suc a) (n * a + (n - 1)) (omega (arith, mul-suc n a))
-
-pub mag-quotient : (z : ℤ) (n : ℕ) → mag (quotZ z (pos n)) ≤ mag z
-mag-quotient (pos a) n = div-le-self a n
-mag-quotient (negsuc a) n = mag-neg (suc a / n) a (div-le-self (suc a) n)
 
 -- ---- of a number that is not below lo and not above hi
 pub between : (lo hi z : ℤ) (n : ℕ) → ltZ z lo ≡ false → ltZ hi z ≡ false → mag lo < n → mag hi < n → mag z < n

@@ -1,6 +1,6 @@
 // The two layouts of §8.6.4: 20 stereo bands over 71 hybrid channels, 34 over 91. A layout's numbers belong to its type.
 ghost use mathlib.Core.Path.{_≡_};
-ghost use Prim.Native.Nat.{_≤_, min};
+ghost use Prim.Native.Nat.{_≤_};
 ghost use Rattle.layout.specs.Numbers.{bandsOf, channelsOf, splitOf, unsplitFromOf, allPassOf, shortDelayOf, decayCutoffOf, edgeShiftOf, resetFromOf};
 
 pub struct Twenty;
@@ -134,12 +134,6 @@ impl Layout {
     {
         let shift = self.edge_shift();
         let channels = self.channels();
-        least(least(edge, 64) + shift, channels)
+        limits::least(limits::least(edge, 64) + shift, channels)
     }
-}
-
-fn least(a: usize, b: usize) -> usize
-    ensures { λ r. ⌜ r ≡ min a b ⌝ }
-{
-    if a < b { a } else { b }
 }

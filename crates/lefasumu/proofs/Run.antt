@@ -15,7 +15,7 @@ use Rattle.calls.specs.Run.{outcome}
 use Rattle.ps_decoder.specs.Frame.{decoderAfter, playedBy}
 use Rattle.ps_decoder.specs.Run.{decoderAt}
 use Rattle.ps_decoder.proofs.Run.{run-is}
-use Rattle.ps_memory.specs.Place.{image}
+use Rattle.ps_memory.specs.Place.{numbers, image}
 use Rattle.ps_memory.specs.Shape.{StateKept}
 use Rattle.ps_memory.proofs.Back.{load-image, image-length, image-fresh}
 use Rattle.ps_memory.proofs.Kept.{fresh-kept, accepted-kept}
@@ -23,7 +23,7 @@ use Rattle.ps_memory.proofs.Narrow.{either}
 use Rattle.ps_state.specs.declared.PsDecoder.{PsDecoder}
 use Rattle.ps_state.specs.Ready.{readied}
 use Rattle.ps_state.specs.State.{freshDecoder, playingOf, stored}
-use Rattle.lefasumu.specs.Face.{Called, startedIn, calledOf, calledIn}
+use Rattle.lefasumu.specs.Api.{Called, startedIn, calledOf, calledIn}
 use Rattle.lefasumu.specs.Run.{memoryAt, Told}
 
 -- ---- one call
@@ -37,7 +37,7 @@ call-kept s c kept = either StateKept (eqb (numberOf (answer (playingOf s) c)) 0
 through : (s : PsDecoder) (c : Call) → StateKept s → calledIn (image s) c ≡ calledOf (image s) s c
 unfolding calledIn
 through s c kept =
-    rw (eq-eqb (length (image s)) 2372 (image-length s (kept .shape))) (ap (λ (t : PsDecoder). calledOf (image s) t c) (load-image s kept))
+    rw (eq-eqb (length (image s)) numbers (image-length s (kept .shape))) (ap (λ (t : PsDecoder). calledOf (image s) t c) (load-image s kept))
 
 -- and leaves the memory of the state by value
 memory-after : (s : PsDecoder) (c : Call) → calledOf (image s) s c .memory ≡ image (decoderAfter s c)
@@ -53,7 +53,7 @@ memory-after s c = go (eqb (numberOf (answer (playingOf s) c)) 0)
 
 -- ---- a run
 
-module _ (m : List Float) (slots : ℕ) (c : ℕ → Call) (long : length m ≡ 2372) where
+module _ (m : List Float) (slots : ℕ) (c : ℕ → Call) (long : length m ≡ numbers) where
   abbrev state : ℕ → PsDecoder
   state i = decoderAt (slotsOf slots) c i
 
@@ -64,7 +64,7 @@ module _ (m : List Float) (slots : ℕ) (c : ℕ → Call) (long : length m ≡ 
 
   start-is : startedIn m slots .memory ≡ image (freshDecoder slots)
   unfolding startedIn
-  start-is = rw (eq-eqb (length m) 2372 long)
+  start-is = rw (eq-eqb (length m) numbers long)
 
   -- the memory before call i is that of the decoder's own state there
   pub memory-is : (i : ℕ) → memoryAt m slots c i ≡ image (state i)

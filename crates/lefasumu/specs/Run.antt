@@ -6,7 +6,7 @@ use lib.Ieee.{Float}
 use Rattle.answer.specs.Number.{numberOf}
 use Rattle.calls.specs.Call.{Call, fresh}
 use Rattle.calls.specs.Run.{outcome}
-use Rattle.lefasumu.specs.Face.{Called, startedIn, calledIn}
+use Rattle.lefasumu.specs.Api.{Called, startedIn, calledIn}
 
 -- the memory before call i
 unfoldable pub memoryAt : List Float → ℕ → (ℕ → Call) → ℕ → List Float

@@ -1,15 +1,27 @@
-// The face for C: a decoder whose state lies in memory that the caller lends, 2,372 doubles. lefasumu.h says the same in C's words.
-use ps_state::PsCarried;
+// The C API: a decoder whose state lies in memory that the caller lends. lefasumu.h says the same in C's words.
+use answer::Answer;
 ghost use mathlib.Core.Path.{_≡_};
+ghost use Rattle.answer.specs.Number.{numberOf};
 ghost use Rattle.ps_decoder.specs.Frame.{callOf};
-ghost use Rattle.lefasumu.specs.Face.{started, startedIn, called, calledIn};
+ghost use Rattle.lefasumu.specs.Api.{started, startedIn, called, calledIn};
+ghost use Rattle.ps_memory.specs.Place.{numbers};
 
 // How many numbers the lent memory has.
+pub const MEMORY: usize = ps_memory::NUMBERS;
+
+// The same for C.
 #[no_mangle]
 pub extern "C" fn lefasumu_memory() -> usize
-    ensures { λ r. ⌜ r ≡ 2372 ⌝ }
+    ensures { λ r. ⌜ r ≡ numbers ⌝ }
 {
-    ps_memory::numbers()
+    MEMORY
+}
+
+// What C is told for an answer.
+fn told(answer: Answer) -> u32
+    ensures { λ r. ⌜ r ≡ numberOf answer ⌝ }
+{
+    answer.number() as u32
 }
 
 // Makes memory that of a fresh decoder, whatever it held. Memory of another length is refused.
@@ -17,21 +29,11 @@ pub extern "C" fn lefasumu_memory() -> usize
 pub extern "C" fn lefasumu_start(memory: &mut [f64], slots: usize) -> u32
     ensures { λ r. ⌜ started r (now (memory .exit)) ≡ startedIn (now (memory .entry)) slots ⌝ }
 {
-    if memory.len() != ps_memory::numbers() {
-        return 5;
+    if memory.len() != MEMORY {
+        return told(Answer::Buffers);
     }
     let state = ps_state::fresh(slots);
-    let layout = state.layout;
-    let indices = state.indices;
-    let stereo = state.stereo;
-    let carried = PsCarried {
-        asked: state.asked,
-        layout: layout,
-        configured: state.configured,
-        cued: state.cued,
-        indices: indices,
-        stereo: stereo,
-    };
+    let carried = ps_state::apart(state);
     let history = state.history;
     let decorr = state.decorr;
     let delays = decorr.delays;
@@ -47,7 +49,7 @@ pub extern "C" fn lefasumu_start(memory: &mut [f64], slots: usize) -> u32
         &detectors,
         memory,
     );
-    0
+    told(Answer::Done)
 }
 
 // A frame. The memory is written only after answer 0.
@@ -62,8 +64,8 @@ pub extern "C" fn lefasumu_frame(
 ) -> u32
     ensures { λ r. ⌜ called r (now (memory .exit)) (now (left .exit)) (now (right .exit)) ≡ calledIn (now (memory .entry)) (callOf (now (line .entry)) (now (input .entry)) edge (now (left .entry)) (now (right .entry))) ⌝ }
 {
-    if memory.len() != ps_memory::numbers() {
-        return 5;
+    if memory.len() != MEMORY {
+        return told(Answer::Buffers);
     }
     let mut history = [0.0; 60];
     let mut delays = [0.0; 1400];
@@ -92,11 +94,10 @@ pub extern "C" fn lefasumu_frame(
         right,
     );
     let answer = played.answer;
-    let number = answer.number();
-    if number == 0 {
-        let after = played.carried;
-        ps_memory::store(after, &history, &delays, &long, &short, &detectors, memory);
-        return 0;
-    }
-    number as u32
+    let Answer::Done = answer else {
+        return told(answer);
+    };
+    let after = played.carried;
+    ps_memory::store(after, &history, &delays, &long, &short, &detectors, memory);
+    told(answer)
 }

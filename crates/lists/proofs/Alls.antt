@@ -11,7 +11,7 @@ use lib.Seq.{drop-cons, take-suc, take-all}
 use Rattle.lists.specs.All.{all}
 
 -- where both pass, each does
-both : (a b : Bool) → a && b ≡ true → (a ≡ true) × (b ≡ true)
+pub both : (a b : Bool) → a && b ≡ true → (a ≡ true) × (b ≡ true)
 both true b e = (refl, e)
 both false b e = absurd (true≢false (sym e))
 

@@ -6,4 +6,5 @@ pub mod Rows
 pub mod Maps
 pub mod Alls
 pub mod Ring
-pub mod Held
+pub mod Padded
+pub mod First

@@ -5,7 +5,7 @@ use Prim.Native.Nat.{ℕ, _+_, _*_, _<_, _≤_}
 use native.Mathlib.Numerals.{add-one}
 use native.Mathlib.Nat.{mul-one}
 use native.Mathlib.Omega.{arith}
-use lib.ListN.{length, getD, set, replicate, length-map, length-replicate, getD-replicate, List·getD-map}
+use lib.ListN.{length, getD, set, length-map, List·getD-map}
 use lib.Seq.{ext-getD}
 use Rattle.lists.specs.Rows.{rows, tabulate}
 use Rattle.lists.proofs.Front.{Front, front-none, front-store, front-all}
@@ -42,16 +42,11 @@ module _ {A : Type 0} where
     pub tabulated-all : (m : ℕ) → n ≡ m → length d ≤ m → l ≡ tabulate f m
     tabulated-all m e h = front-all (r .front) (rw e h) ∙ ap (tabulate f) e
 
-  -- ---- what such a list is: each element as it is, and the same element everywhere
+  -- ---- what such a list is: each element as it is
   pub copied : (l : List A) (d : A) → tabulate (λ i. getD l i d) (length l) ≡ l
   copied l d =
       ext-getD d (tabulate (λ i. getD l i d) (length l)) l (tabulate-length (λ i. getD l i d) (length l))
       (λ i h. tabulate-at (λ j. getD l j d) (length l) i d (rw tabulate-length at h))
-
-  pub repeated : (n : ℕ) (v : A) → tabulate (λ i. v) n ≡ replicate n v
-  repeated n v =
-      ext-getD v (tabulate (λ i. v) n) (replicate n v) (tabulate-length (λ i. v) n ∙ sym (length-replicate n v))
-      (λ i h. let u : i < n = (rw tabulate-length at h) in tabulate-at (λ j. v) n i v u ∙ sym (getD-replicate n i v v u))
 
 -- f of each element of another list
 pub mapped : {A B : Type 0} (f : A → B) (l : List A) (d : A) → tabulate (λ i. f (getD l i d)) (length l) ≡ map f l

@@ -14,7 +14,7 @@ use lib.Seq.{take-add, take-all, drop-at}
 use Rattle.lists.specs.Part.{part, put}
 use Rattle.lists.specs.Rows.{rows}
 use Rattle.lists.proofs.Parts.{part-front, part-at, part-put-before, part-put-behind}
-use Rattle.lists.proofs.Front.{Front, front-none, front-lent, front-put, front-pair, front-all}
+use Rattle.lists.proofs.Front.{Front, front-none, front-put, front-pair, front-all}
 
 module _ {A : Type 0} where
   -- rows that agree make lists that agree
@@ -87,10 +87,7 @@ module _ {A : Type 0} where
   rowed-none f d = record { front = front-none d }
 
   module _ {f : ℕ → List A} {k n : ℕ} {d l : List A} (r : Rowed f k n d l) where
-    -- the row that is lent next is as it was, and once it is back, a row more is done
-    pub rowed-lent : (w : ℕ) → part n (n + w - n) l ≡ part n w d
-    rowed-lent w = front-lent (r .front) w
-
+    -- once the row that is lent is back, a row more is done
     pub rowed-more : {next : ℕ} (w : ℕ) (ys : List A) → ys ≡ f k → length ys ≡ w → next ≡ n + w → Rowed f (k + 1) next d (put n (n + w - n) l ys)
     unfolding rows
     rowed-more {next} w ys e h en = record { front = rw (add-one k, en, ← e) (front-put (r .front) w ys h) }

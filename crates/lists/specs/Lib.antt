@@ -2,4 +2,5 @@ pub mod All
 pub mod Part
 pub mod Rows
 pub mod Ring
-pub mod Held
+pub mod Padded
+pub mod First

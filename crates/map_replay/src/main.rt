@@ -22,10 +22,6 @@ struct Replayed {
     whole: bool,
 }
 
-fn wide(x: u8) -> usize {
-    x as usize
-}
-
 // A byte as a signed number: its magnitude, at most 63, and 128 more where it is negative.
 fn signed(byte: u8) -> i8 {
     if byte < 128 {
@@ -64,8 +60,8 @@ fn same(entry: &[u8], row: &[i8; 34]) -> bool
 fn holds(entry: &[u8]) -> bool
     requires { ⌜ length (now entry) ≡ 77 ⌝ }
 {
-    let count = wide(entry[0]);
-    let target = wide(entry[1]);
+    let count = limits::wide(entry[0]);
+    let target = limits::wide(entry[1]);
     if 40 < count {
         return false;
     }

@@ -2,7 +2,7 @@
 mod values;
 
 ghost use mathlib.Core.Path.{_≡_};
-ghost use Prim.Native.Nat.{_<_, min};
+ghost use Prim.Native.Nat.{_<_};
 ghost use lib.IntN.{pos};
 ghost use lib.ListN.{getD};
 ghost use Rattle.fixed.specs.Real.{real};
@@ -22,20 +22,14 @@ pub fn table() -> [i64; 2944]
     values::MIXING
 }
 
-fn at_most(x: usize, most: usize) -> usize
-    ensures { λ r. ⌜ r ≡ min x most ⌝ }
-{
-    if x < most { x } else { most }
-}
-
 // The place of a level among the 46: 15 coarse ones, then 31 fine ones.
 fn level_place(fine: bool, level: usize) -> usize
     ensures { λ r. ⌜ (r ≡ levelPlace fine level) × (r < 46) ⌝ }
 {
     if fine {
-        15 + at_most(level, 30)
+        15 + limits::least(level, 30)
     } else {
-        at_most(level, 14)
+        limits::least(level, 14)
     }
 }
 
@@ -52,7 +46,7 @@ fn place(rb: bool, fine: bool, level: usize, coherence: usize) -> usize
 {
     let procedure = procedure_place(rb);
     let row = level_place(fine, level);
-    let column = at_most(coherence, 7);
+    let column = limits::least(coherence, 7);
     4 * ((procedure + row) * 8 + column)
 }
 

@@ -10,7 +10,6 @@ use super::scene::FRAMES;
 use super::sound;
 use layout::Layout;
 ghost use mathlib.Core.Path.{_≡_};
-ghost use Prim.Native.Nat.{min};
 ghost use lib.ListN.{length};
 
 // The places of all frames of an output, and of both outputs.
@@ -28,12 +27,6 @@ pub struct Pair {
     pub different: u64,
 }
 
-fn least(a: usize, b: usize) -> usize
-    ensures { λ r. ⌜ r ≡ min a b ⌝ }
-{
-    if a < b { a } else { b }
-}
-
 // One frame.
 fn play_frame(
     memory: &mut [f64],
@@ -48,13 +41,14 @@ fn play_frame(
 ) -> u32 {
     let seed = chance::branch(chance::branch(1, pair as u64), frame);
     let slots = scene::slots_of(pair);
-    let mut text = [0u8; 864];
+    let mut text = [0u8; limits::DIGITS];
     let used = line::put_line(&mut text, layout, frame, slots, bands, run, seed);
     // As many rows as a frame of 32 slots reads.
     let mut input = [0.0; 4864];
     sound::fill(&mut input, columns, frame, run, seed);
     let edge = scene::edge_of(pair, frame);
-    lefasumu::lefasumu_frame(memory, &text[..least(used, 864)], &input, edge, left, right)
+    let end = limits::least(used, limits::DIGITS);
+    lefasumu::lefasumu_frame(memory, &text[..end], &input, edge, left, right)
 }
 
 // One frame, into its 4,096 places of both outputs.
@@ -139,7 +133,7 @@ fn play_run(
 ) -> u64
     requires { ⌜ (length (now left) ≡ 24576) × (length (now right) ≡ 24576) ⌝ }
 {
-    let mut memory = [0.0; 2372];
+    let mut memory = [0.0; lefasumu::MEMORY];
     if lefasumu::lefasumu_start(&mut memory, scene::slots_of(pair)) != 0 {
         return 0;
     }

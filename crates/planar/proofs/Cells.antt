@@ -1,8 +1,8 @@
 -- What a store of a complex number leaves, and when a list is the list of a run. Assumes nothing.
-use mathlib.Core.Path.{_≡_, refl, sym, ap, ap₂, _∙_}
+use mathlib.Core.Path.{_≡_, sym, ap, ap₂, _∙_}
 use mathlib.Core.Logic.{_≢_}
 use mathlib.Core.List.{List, _++_}
-use Prim.Native.Nat.{ℕ, _+_, _-_, _<_, _≤_}
+use Prim.Native.Nat.{ℕ, _+_, _<_}
 use native.Mathlib.Omega.{arith}
 use lib.Ieee.{Float, nan}
 use lib.ListN.{length, take, drop, getD, set, length-set, length-append, length-drop, take-append-drop, List·getD-append}
@@ -70,3 +70,7 @@ planar-at apart f i h = by-parts front behind
 
 pub planar-length : (apart : ℕ) (f : ℕ → Complex) → length (planar apart f) ≡ apart + apart
 planar-length apart f = length-append (tabulate (λ i. f i .re) apart) (tabulate (λ i. f i .im) apart) ∙ ap₂ (λ (a b : ℕ). a + b) (tabulate-length (λ i. f i .re) apart) (tabulate-length (λ i. f i .im) apart)
+
+-- two runs that are equal number by number are one list
+pub planar-same : (apart : ℕ) (f g : ℕ → Complex) → ((i : ℕ) → i < apart → f i ≡ g i) → planar apart f ≡ planar apart g
+planar-same apart f g same = planar-is apart (planar apart f) g (planar-length apart f) (λ i u. planar-at apart f i u ∙ same i u)

@@ -2,3 +2,4 @@ pub mod Cells
 pub mod Pairs
 pub mod Window
 pub mod Rows
+pub mod Overwritten

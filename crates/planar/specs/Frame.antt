@@ -1,16 +1,19 @@
--- A frame in flat lists: the hybrid samples, for each all-pass channel a run of 32 slots; a band's coefficients, four runs of 32 slots; and QMF slots,
--- rows of 64 complex numbers side by side. Assumes nothing.
+-- A frame in flat lists: the hybrid samples, for each all-pass channel a run of 32 slots; a band's coefficients, four runs of 32 slots; what the
+-- bands keep; and QMF slots, rows of 64 complex numbers side by side. Assumes nothing.
 use Prim.Native.Nat.{ℕ, _+_, _-_, _*_, _/_, _%_}
 use mathlib.Core.Bool.{cond}
 use mathlib.Core.List.{List, [], _∷_, _++_}
 use lib.Dec.{eqb, ltb}
+use lib.IntN.{ℤ, pos}
 use lib.Ieee.{Float}
+use lib.ListN.{getD}
 use Rattle.complex.specs.declared.Complex.{Complex}
 use Rattle.layout.specs.declared.Layout.{Layout}
 use Rattle.layout.specs.Numbers.{allPassOf, splitOf, unsplitFromOf}
 use Rattle.lists.specs.Part.{part}
 use Rattle.lists.specs.Rows.{tabulate}
 use Rattle.standard.specs.declared.Matrix.{Matrix}
+use Rattle.standard.specs.Mixing.{Phases}
 use Rattle.planar.specs.Cells.{cell, planar}
 
 -- slot n of channel k
@@ -30,6 +33,13 @@ keptMatrix numbers = record { h11 = cell 1 numbers 0; h12 = cell 1 numbers 2; h2
 
 abbrev pub numbersOf : Matrix → List Float
 numbersOf h = h .h11 .re ∷ h .h11 .im ∷ h .h12 .re ∷ h .h12 .im ∷ h .h21 .re ∷ h .h21 .im ∷ h .h22 .re ∷ h .h22 .im ∷ []
+
+-- a band's phase indices, kept for 34 bands: the oldest and the previous of IPD, then those of OPD
+abbrev pub ipdOf : List ℤ → ℕ → Phases
+ipdOf phases b = record { oldest = getD phases b (pos 0); previous = getD phases (34 + b) (pos 0) }
+
+abbrev pub opdOf : List ℤ → ℕ → Phases
+opdOf phases b = record { oldest = getD phases (68 + b) (pos 0); previous = getD phases (102 + b) (pos 0) }
 
 -- QMF band q in slot n, and the list of all of them
 abbrev pub qmfAt : List Float → ℕ → ℕ → Complex

@@ -1,3 +1,4 @@
 pub mod Cells
 pub mod Window
 pub mod Frame
+pub mod Lanes

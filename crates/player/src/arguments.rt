@@ -1,7 +1,6 @@
 // Numbers among the program's arguments, and whether those that name files are there.
 use crate::files;
-ghost use Prim.Native.Nat.{_≤_, min};
-ghost use mathlib.Core.Path.{_≡_};
+ghost use Prim.Native.Nat.{_≤_};
 
 // Slots act alike from 32 on and the spectrum's edge from 64 on, so a number above this one is read as this one.
 const MOST: usize = 1000000;
@@ -9,12 +8,6 @@ const MOST: usize = 1000000;
 pub enum Number {
     Given(usize),
     Missing,
-}
-
-pub fn least(a: usize, b: usize) -> usize
-    ensures { λ r. ⌜ r ≡ min a b ⌝ }
-{
-    if a < b { a } else { b }
 }
 
 // What a decimal digit counts, or 10.
@@ -39,7 +32,7 @@ fn number_of(text: &[u8]) -> Number {
         if 9 < count {
             return Number::Missing;
         }
-        value = least(value * 10 + count, MOST);
+        value = limits::least(value * 10 + count, MOST);
         i += 1;
     }
     Number::Given(value)

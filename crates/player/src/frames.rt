@@ -1,7 +1,5 @@
 // Frames: what a run carries from line to line, and what is done for each.
-use crate::arguments;
 use crate::files;
-use crate::lines;
 use crate::report;
 use crate::report::Tally;
 use crate::rows;
@@ -22,8 +20,8 @@ pub struct Run {
     pub asked: usize,
     pub edge: usize,
     pub tally: Tally,
-    // How much is held of the line that has begun, and of the next frame's rows.
-    pub used: usize,
+    // How many characters the line that has begun has had, and how many of the next frame's rows are there.
+    pub count: u64,
     pub ahead: usize,
     // The rows that the samples had, and those that the lines have needed.
     pub rows: u64,
@@ -44,7 +42,7 @@ pub fn start(streams: Streams, asked: usize, edge: usize) -> Run {
             quiet: 0,
             refused: 0,
         },
-        used: 0,
+        count: 0,
         ahead: 0,
         rows: 0,
         needed: 0,
@@ -128,7 +126,7 @@ fn begun(before: Run, slots: usize) -> Run {
     let mut after = before;
     after.tally = tally;
     after.needed = std::num::wrapping_add_u64(before.needed, slots as u64);
-    after.used = 0;
+    after.count = 0;
     after
 }
 
@@ -137,7 +135,7 @@ fn play_line(before: Run, memory: &mut [f64], line: &[u8], input: &mut [f64]) ->
     requires { ⌜ length (now input) ≡ 4864 ⌝ }
 {
     let slots = borders::slots(before.asked);
-    let ahead = arguments::least(before.ahead, 6);
+    let ahead = limits::least(before.ahead, 6);
     let mut run = begun(before, slots);
     if run.failed | run.short {
         return run;
@@ -162,8 +160,7 @@ fn play_line(before: Run, memory: &mut [f64], line: &[u8], input: &mut [f64]) ->
 pub fn end_line(before: Run, memory: &mut [f64], line: &[u8], input: &mut [f64]) -> Run
     requires { ⌜ length (now input) ≡ 4864 ⌝ }
 {
-    let used = arguments::least(before.used, line.len());
-    play_line(before, memory, &line[..used], input)
+    play_line(before, memory, text_lines::held(line, before.count), input)
 }
 
 // A piece of the file of lines: the lines that end in it, and the beginning of the next.
@@ -179,13 +176,11 @@ pub fn play_piece(
     let mut run = before;
     let mut from = 0;
     while from < piece.len() {
-        let end = lines::line_end(piece, from);
-        run.used = lines::hold(line, run.used, &piece[from..end]);
-        if end < piece.len() {
-            from = end + 1;
+        let step = text_lines::step(line, run.count, piece, from);
+        from = step.next;
+        run.count = step.count;
+        if step.ended {
             run = end_line(run, memory, line, input);
-        } else {
-            from = end;
         }
     }
     run

@@ -3,7 +3,6 @@
 mod arguments;
 mod files;
 mod frames;
-mod lines;
 mod report;
 mod rows;
 
@@ -13,9 +12,9 @@ use frames::Streams;
 
 // Plays the lines to their end.
 fn play(before: Run) -> Run {
-    // A line of more than 864 characters is refused whatever they are, so one more than that is all that is held of it.
-    let mut line = [0u8; 865];
-    let mut memory = [0.0; 2372];
+    // A line of more characters than the longest has is refused whatever they are, so one more than that is all that is held of it.
+    let mut line = [0u8; limits::DIGITS + 1];
+    let mut memory = [0.0; lefasumu::MEMORY];
     let mut input = [0.0; 4864];
     let mut piece = io::large_buffer();
     let mut run = before;
@@ -25,16 +24,16 @@ fn play(before: Run) -> Run {
     while turns > 0 {
         let streams = run.streams;
         let got = files::read_some(files::LINES, streams.lines, &mut piece);
-        let count = got.count;
-        if count == 0 {
+        let used = got.count;
+        if used == 0 {
             run.failed = run.failed | got.failed;
             turns = 0;
         } else {
-            run = frames::play_piece(run, &mut memory, &mut line, &mut input, &piece[..count]);
+            run = frames::play_piece(run, &mut memory, &mut line, &mut input, &piece[..used]);
             turns -= 1;
         }
     }
-    if 0 < run.used {
+    if 0 < run.count {
         run = frames::end_line(run, &mut memory, &line, &mut input);
     }
     run

@@ -16,7 +16,8 @@ use Rattle.planar.proofs.Rows.{rows-are}
 use Rattle.ps_hybrid_synthesis.specs.Rising.{columnTo, Risen}
 use Rattle.ps_hybrid_synthesis.proofs.Spans.{split-behind, unsplit-before, unsplit-passed}
 use Rattle.standard.specs.Hybrid.{synthesised}
-use Rattle.ps_allpass_channels.proofs.Numbers.{split-passes, span-split}
+use Rattle.layout.proofs.Bounds.{bounds}
+use Rattle.standard.proofs.Spans.{spans}
 
 -- what a column holds: the band's channels are all there, or none of them is
 module _ (l : Layout) (y : ℕ → Complex) (before : Complex) (q : ℕ) where
@@ -26,9 +27,9 @@ module _ (l : Layout) (y : ℕ → Complex) (before : Complex) (q : ℕ) where
   column-split : q < splitOf l → columnTo l y before (allPassOf l) q ≡ holds
   unfolding synthesised
   column-split h =
-      let below : q < qmfBandOf l (allPassOf l) = omega (arith, split-passes l) in
+      let below : q < qmfBandOf l (allPassOf l) = omega (arith, bounds l .passed) in
       rw (lt-ltb q (qmfBandOf l (allPassOf l)) below, lt-ltb q (splitOf l) h)
-      (split-behind l y before (allPassOf l) q h (omega (arith, split-passes l, span-split l (suc q))))
+      (split-behind l y before (allPassOf l) q h (omega (arith, bounds l .passed, spans l (suc q) .most)))
 
   column-unsplit : splitOf l ≤ q → columnTo l y before (allPassOf l) q ≡ holds
   unfolding synthesised
@@ -37,10 +38,10 @@ module _ (l : Layout) (y : ℕ → Complex) (before : Complex) (q : ℕ) where
       go : (t : Bool) → ltb q (qmfBandOf l (allPassOf l)) ≡ t → columnTo l y before (allPassOf l) q ≡ holds
       go true e =
           let below : q < qmfBandOf l (allPassOf l) = ltb-true q (qmfBandOf l (allPassOf l)) e in
-          rw (e, le-ltb q (splitOf l) h) (unsplit-passed l y before (allPassOf l) q h (omega (arith, split-passes l)))
+          rw (e, le-ltb q (splitOf l) h) (unsplit-passed l y before (allPassOf l) q h (omega (arith, bounds l .passed)))
       go false e =
           let above : qmfBandOf l (allPassOf l) ≤ q = ltb-false q (qmfBandOf l (allPassOf l)) e in
-          rw e (unsplit-before l y before (allPassOf l) q h (omega (arith, split-passes l)))
+          rw e (unsplit-before l y before (allPassOf l) q h (omega (arith, bounds l .passed)))
 
   column-passed : columnTo l y before (allPassOf l) q ≡ holds
   column-passed = go (ltb q (splitOf l)) refl

@@ -22,7 +22,7 @@ use Rattle.ps_allpass_channels.specs.Channels.{channelThen, decorrelated
 use Rattle.ps_allpass_channels.specs.Sofar.{afterwards, sideWith, Sofar}
 use Rattle.ps_allpass_channels.specs.Turns.{matrixOf}
 use Rattle.ps_allpass_channels.proofs.Columns.{risen-passed}
-use Rattle.ps_allpass_channels.proofs.Numbers.{all-pass-small}
+use Rattle.layout.proofs.Bounds.{bounds}
 
 -- rows that are new up to a number, and those of a list from there on
 rows-behind : (w from m : ℕ) (f : ℕ → List Float) (old : List Float)
@@ -42,7 +42,7 @@ module _ (l : Layout) (borders : List ℕ) (count : ℕ) (samples gains rows del
   pub chains-are : length delays ≡ 1400 → chains ≡ delaysWith l channel-of delays
   unfolding delaysWith
   chains-are long =
-      let few : allPassOf l ≤ 50 = all-pass-small l in
+      let few : allPassOf l ≤ 50 = bounds l .all-pass in
       let whole : allPassOf l + (50 - allPassOf l) ≡ 50 = omega arith in
       let rest : length (drop (28 * allPassOf l) delays) ≤ 28 * (50 - allPassOf l) = rw (length-drop, long) (omega arith) in
       s .memory .is

@@ -6,7 +6,7 @@ use Prim.Native.Nat.{ℕ, zero, suc, _+_, _<_, _≤_}
 use native.Mathlib.Omega.{arith}
 use lib.Ieee.{Float}
 use Rattle.complex.specs.declared.Complex.{Complex}
-use Rattle.ps_hybrid_synthesis.specs.Lanes.{on}
+use Rattle.planar.specs.Lanes.{on}
 use Rattle.standard.specs.declared.Chain.{Chain}
 use Rattle.standard.specs.declared.Matrix.{Matrix}
 use Rattle.standard.specs.Channel.{Channel, channelAt, thirdOutput}

@@ -11,7 +11,7 @@ use lib.Ieee.{Float, nan}
 use lib.ListN.{length, getD}
 use Rattle.complex.specs.declared.Complex.{Complex}
 use Rattle.planar.proofs.Cells.{by-parts}
-use Rattle.ps_hybrid_synthesis.specs.Lanes.{on}
+use Rattle.planar.specs.Lanes.{on}
 use Rattle.ps_allpass_channels.specs.Tape.{fourOf}
 use Rattle.ps_allpass_channels.specs.Sides.{FourPut}
 use Rattle.ps_allpass_channels.proofs.Stored.{storedFrom, stored-apart, stored-there}

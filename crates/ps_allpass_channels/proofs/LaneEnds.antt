@@ -1,7 +1,7 @@
 -- A frame's end: what a lane that holds a channel leaves is the channel's memory. Assumes nothing.
-use mathlib.Core.Path.{_≡_, refl, sym, ap, ap₂, _∙_}
+use mathlib.Core.Path.{_≡_, refl, sym, ap₂, _∙_}
 use mathlib.Core.List.{List, _++_, append-nil, append-assoc}
-use Prim.Native.Nat.{ℕ, suc, _+_, _*_, _-_, _<_, _≤_}
+use Prim.Native.Nat.{ℕ, suc, _+_, _*_, _-_, _≤_}
 use native.Mathlib.Nat.{add-zero}
 use native.Mathlib.Numerals.{add-one}
 use native.Mathlib.Omega.{arith}
@@ -13,24 +13,17 @@ use Rattle.complex.specs.declared.Complex.{Complex}
 use Rattle.lists.specs.Part.{put}
 use Rattle.lists.specs.Rows.{rows}
 use Rattle.lists.proofs.Front.{Front, front-kept, front-long, front-put}
-use Rattle.lists.proofs.Maps.{tabulate-same}
 use Rattle.planar.specs.Cells.{cell, planar, overwritten}
 use Rattle.planar.specs.Window.{imageOf}
+use Rattle.planar.proofs.Cells.{planar-same}
 use Rattle.standard.specs.declared.Chain.{Chain}
 use Rattle.standard.specs.Channel.{Channel, back, channelAt}
 use Rattle.ps_decorr_allpass.specs.Memory.{memoryOf}
-use Rattle.ps_hybrid_synthesis.specs.Lanes.{on}
+use Rattle.planar.specs.Lanes.{on}
 use Rattle.ps_allpass_channels.specs.Tape.{Gathered}
 use Rattle.ps_allpass_channels.specs.Lanes.{Line, Lane, memoryLeft}
 use Rattle.ps_allpass_channels.proofs.LaneLines.{line-kept}
-use Rattle.ps_allpass_channels.proofs.LaneSteps.{past-of}
-
--- runs whose cells agree
-planar-same : (apart : ℕ) (f g : ℕ → Complex) → ((i : ℕ) → i < apart → f i ≡ g i) → planar apart f ≡ planar apart g
-planar-same apart f g same =
-    ap₂ (λ (a b : List Float). a ++ b)
-    (tabulate-same (λ i. f i .re) (λ i. g i .re) apart (λ i u. ap (λ (z : Complex). z .re) (same i u)))
-    (tabulate-same (λ i. f i .im) (λ i. g i .im) apart (λ i u. ap (λ (z : Complex). z .im) (same i u)))
+use Rattle.standard.proofs.Channels.{past-of}
 
 -- a run that is new as a whole
 pub gathered-all : {lane place apart : ℕ} {tape to₀ to : List Float} → Gathered lane place apart apart tape to₀ to

@@ -10,7 +10,7 @@ use lib.Dec.{eqb}
 use lib.Ieee.{Float}
 use Rattle.complex.specs.declared.Complex.{Complex}
 use Rattle.planar.specs.Cells.{cell}
-use Rattle.ps_hybrid_synthesis.specs.Lanes.{on}
+use Rattle.planar.specs.Lanes.{on}
 use Rattle.ps_allpass_channels.specs.Tape.{Laid}
 use Rattle.ps_allpass_channels.specs.Sides.{FourPut}
 

@@ -9,7 +9,7 @@ use Rattle.complex.specs.Operations.{product}
 use Rattle.standard.specs.declared.Chain.{Chain}
 use Rattle.standard.specs.declared.Link.{Link}
 use Rattle.standard.specs.Channel.{Channel, back, linkState, linkOutput, pastAt}
-use Rattle.ps_hybrid_synthesis.specs.Lanes.{on}
+use Rattle.planar.specs.Lanes.{on}
 use Rattle.ps_allpass_channels.specs.Tape.{Put}
 use Rattle.ps_allpass_channels.specs.Lanes.{Lane, Linked, Stepped}
 use Rattle.ps_allpass_channels.proofs.LaneStores.{others-then}

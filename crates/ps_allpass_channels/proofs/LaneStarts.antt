@@ -15,7 +15,7 @@ use Rattle.planar.specs.Cells.{cell}
 use Rattle.planar.specs.Frame.{sampleAt}
 use Rattle.standard.specs.Channel.{back, channelAt, pastAt}
 use Rattle.ps_decorr_allpass.specs.Memory.{channelOf}
-use Rattle.ps_hybrid_synthesis.specs.Lanes.{on}
+use Rattle.planar.specs.Lanes.{on}
 use Rattle.ps_allpass_channels.specs.Tape.{Others, Spread, fourOf, Laid}
 use Rattle.ps_allpass_channels.specs.Lanes.{Line, Remembered, AllRemembered, Entered}
 use Rattle.ps_allpass_channels.proofs.LaneStores.{others-then}

@@ -1,29 +1,17 @@
 -- One slot over the cells of a lane is one slot of its channel: each line gives what its delay asks for, and takes what the channel's history takes.
 -- Assumes nothing.
-use mathlib.Core.Path.{_≡_, refl, sym, ap, ap₂, _∙_}
+use mathlib.Core.Path.{_≡_, sym, ap, ap₂, _∙_}
 use mathlib.Core.Logic.{_≢_}
-use mathlib.Core.List.{List, _∷_}
-use Prim.Native.Nat.{ℕ, zero, suc, _+_, _-_, _<_, _≤_}
-use native.Mathlib.Numerals.{add-one}
+use Prim.Native.Nat.{ℕ, _+_, _-_, _<_, _≤_}
 use native.Mathlib.Omega.{arith}
 use Rattle.complex.specs.declared.Complex.{Complex}
 use Rattle.complex.specs.Operations.{product}
 use Rattle.standard.specs.declared.Chain.{Chain}
 use Rattle.standard.specs.Channel.{Channel, back, linkState, linkOutput, rotated, firstOutput, secondOutput, thirdOutput, channelAfter, channelAt, pastAt}
+use Rattle.standard.proofs.Channels.{past-of, channel-next}
 use Rattle.ps_allpass_channels.specs.Tape.{Put}
 use Rattle.ps_allpass_channels.specs.Lanes.{Line, Lane}
 use Rattle.ps_allpass_channels.proofs.LaneLines.{line-read, line-push, past-older}
-
--- a channel's chain does not bear on what came in
-pub past-of : (chain : Chain) (c : Channel) (x : ℕ → Complex) (n : ℕ) → channelAt chain c x n .past ≡ pastAt (c .past) x n
-unfolding channelAt channelAfter pastAt
-past-of chain c x zero = refl
-past-of chain c x (suc n) = ap (λ (h : List Complex). x n ∷ h) (past-of chain c x n)
-
-channel-next : (chain : Chain) (c : Channel) (x : ℕ → Complex) (n : ℕ)
-    → channelAt chain c x (n + 1) ≡ channelAfter chain (channelAt chain c x n) (x n)
-unfolding channelAt
-channel-next chain c x n = ap (channelAt chain c x) (add-one n)
 
 -- cells that a slot wrote: the states of the three links
 pub record Turned (n : ℕ) (a b d : Complex) (f g : ℕ → Complex) : Type 0 where

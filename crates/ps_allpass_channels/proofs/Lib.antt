@@ -1,4 +1,3 @@
-pub mod Numbers
 pub mod Stored
 pub mod LaneStores
 pub mod LaneChains

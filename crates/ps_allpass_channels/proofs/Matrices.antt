@@ -7,6 +7,7 @@ use lib.Ieee.{Float}
 use lib.ListN.{length}
 use Rattle.complex.specs.declared.Complex.{Complex}
 use Rattle.layout.specs.declared.Layout.{Layout}
+use Rattle.limits.specs.Limits as limits
 use Rattle.ps_hybrid_synthesis.specs.Rising.{columnTo, Risen}
 use Rattle.ps_stereo_slots.specs.Coefficients.{Fractions}
 use Rattle.ps_stereo_slots.specs.Envelopes.{regionsOf}
@@ -20,11 +21,11 @@ use Rattle.ps_allpass_channels.specs.Sides.{regionMatrix, slotMatrix, Re
 use Rattle.ps_allpass_channels.specs.Sofar.{sideWith, Sofar}
 use Rattle.ps_allpass_channels.specs.Turns.{matrixBy, matrixOf}
 
-module _ (borders : List ℕ) (count : ℕ) (regions : List ℕ) (envelopes : ℕ) (located : regions ≡ regionsOf borders count) (counted : envelopes ≡ min count 4) where
+module _ (borders : List ℕ) (count : ℕ) (regions : List ℕ) (envelopes : ℕ) (located : regions ≡ regionsOf borders count) (counted : envelopes ≡ min count limits.envelopes) where
   pub regions-few : Regions envelopes regions
-  regions-few = rw (located, counted) (record { within = λ n h. rw (regions-at borders count n h) (region-within borders (min count 4) n) })
+  regions-few = rw (located, counted) (record { within = λ n h. rw (regions-at borders count n h) (region-within borders (min count limits.envelopes) n) })
 
-  pub matrix-borders : (fractions old rows : List Float) → fractions ≡ fractionsAfter borders count old → length borders ≡ 4 → (b n : ℕ) → n < 32
+  pub matrix-borders : (fractions old rows : List Float) → fractions ≡ fractionsAfter borders count old → length borders ≡ limits.envelopes → (b n : ℕ) → n < 32
       → matrixBy regions fractions envelopes rows b n ≡ matrixOf borders count rows b n
   unfolding slotMatrix regionMatrix
   matrix-borders fractions old rows made long b n h =

@@ -2,20 +2,21 @@
 use mathlib.Core.Path.{_≡_, refl, ap, _∙_}
 use mathlib.Core.Bool.{Bool, true, false, cond}
 use mathlib.Core.List.{List}
-use Prim.Native.Nat.{ℕ, suc, _+_, _*_, _<_, _≤_, min}
+use Prim.Native.Nat.{ℕ, suc, _+_, _-_, _*_, _<_, _≤_, min}
 use native.Mathlib.Omega.{arith}
 use borrow.Author.Tests.{eqb-true, eqb-false, lt-ltb, le-ltb}
 use lib.Dec.{eqb, ltb}
 use lib.Ieee.{Float, nan}
 use lib.ListN.{getD}
+use Rattle.limits.specs.Limits as limits
 use Rattle.ps_stereo_slots.specs.Regions.{stepOf, stepped}
 use Rattle.standard.specs.declared.Matrix.{Matrix}
 use Rattle.standard.specs.Interpolation.{towards, between}
 use Rattle.ps_allpass_channels.specs.Sides.{regionMatrix, slotMatrix, Alike}
 
 -- held behind the last border, on the way to the next before it
-pub way-is : (e count n : ℕ) (fractions : List Float) (h : ℕ → Matrix) {next share : ℕ} {from step r : Matrix} {held : Bool} → e ≤ count → count ≤ 4 → held ≡ eqb e count
-    → next ≡ min (e + 1) count → share ≡ min e 3 → from ≡ h e → step ≡ stepOf (h e) (h next) → r ≡ cond held from (stepped from step (getD fractions (32 * share + n) nan))
+pub way-is : (e count n : ℕ) (fractions : List Float) (h : ℕ → Matrix) {next share : ℕ} {from step r : Matrix} {held : Bool} → e ≤ count → count ≤ limits.envelopes → held ≡ eqb e count
+    → next ≡ min (e + 1) count → share ≡ min e (limits.envelopes - 1) → from ≡ h e → step ≡ stepOf (h e) (h next) → r ≡ cond held from (stepped from step (getD fractions (32 * share + n) nan))
     → r ≡ regionMatrix e fractions count h n
 unfolding regionMatrix between towards
 way-is e count n fractions h {next} {share} {from} {step} {r} {held} within few test ahead shares begin gain result = result ∙ rw (test, begin, gain) (go (eqb e count) refl)

@@ -14,7 +14,7 @@ use Rattle.layout.specs.declared.Layout.{Layout}
 use Rattle.lists.specs.Part.{part}
 use Rattle.planar.specs.Frame.{sampleAt}
 use Rattle.ps_decorr_allpass.specs.Memory.{channelOf, channelThen}
-use Rattle.ps_hybrid_synthesis.specs.Lanes.{on}
+use Rattle.planar.specs.Lanes.{on}
 use Rattle.ps_map.specs.Bands.{bandOf}
 use Rattle.ps_map.proofs.Bands.{band-small}
 use Rattle.ps_stereo_slots.specs.Slots.{borderMatrix}
@@ -27,11 +27,11 @@ use Rattle.ps_allpass_channels.specs.Sides.{matrixOn, duckOn, Banded, Wa
 use Rattle.ps_allpass_channels.specs.Sofar.{sideWith}
 use Rattle.ps_allpass_channels.specs.Turns.{Lent, matrixBy}
 use Rattle.ps_allpass_channels.proofs.LaneEnds.{lane-left}
-use Rattle.ps_allpass_channels.proofs.Numbers.{bands-small}
+use Rattle.layout.proofs.Bounds.{bounds}
 use Rattle.ps_allpass_channels.proofs.Turning.{Heard, Left}
 
 pub lent-banded : {l : Layout} {map : List ℕ} {table : List ℤ} {count slots : ℕ} → Lent l map table count slots → Banded map
-lent-banded {l} lent = record { small = λ k. rw (lent .bands) (omega (arith, band-small l k, bands-small l)) }
+lent-banded {l} lent = record { small = λ k. rw (lent .bands) (omega (arith, band-small l k, bounds l .bands)) }
 
 -- only the borders of the frame are read
 module _ (regions : List ℕ) (fractions : List Float) (count : ℕ) (f g : ℕ → Matrix) (same : (e : ℕ) → e ≤ count → f e ≡ g e) where

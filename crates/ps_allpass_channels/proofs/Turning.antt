@@ -13,7 +13,7 @@ use Rattle.lists.specs.Part.{put}
 use Rattle.lists.specs.Rows as lists
 use Rattle.ps_decorr_allpass.specs.Memory.{memoryOf, channelThen}
 use Rattle.ps_hybrid_synthesis.specs.Column.{lanesAfter}
-use Rattle.ps_hybrid_synthesis.specs.Lanes.{on}
+use Rattle.planar.specs.Lanes.{on}
 use Rattle.ps_hybrid_synthesis.specs.Rising.{Risen}
 use Rattle.ps_hybrid_synthesis.proofs.Rising.{risen-lanes}
 use Rattle.standard.specs.declared.Matrix.{Matrix}
@@ -21,7 +21,7 @@ use Rattle.standard.specs.Channel.{chainOf}
 use Rattle.standard.specs.Mixing.{leftOf, rightOf}
 use Rattle.ps_allpass_channels.specs.Sofar.{sideWith, Recalled, Turned}
 use Rattle.ps_allpass_channels.proofs.Memory.{recalled-more}
-use Rattle.ps_allpass_channels.proofs.Numbers.{all-pass-there}
+use Rattle.layout.proofs.Bounds.{bounds}
 use Rattle.ps_allpass_channels.proofs.Sofar.{later-channel, later-side}
 
 module _ (l : Layout) (matrix : ℕ → ℕ → Matrix) (samples gains : List Float) (slots k lanes : ℕ) (chains : List Float) where
@@ -38,7 +38,7 @@ module _ (l : Layout) (matrix : ℕ → ℕ → Matrix) (samples gains : List Fl
         → Recalled l matrix samples gains slots delays k chains → Risen l (sideWith l matrix samples gains slots delays side) slots k old new
         → Risen l (sideWith l matrix samples gains slots delays side) slots (k + lanes) old (lanesAfter l k runs new slots lanes)
     side-risen side runs delays old new heard size r risen =
-        risen-lanes l (sideWith l matrix samples gains slots delays side) slots k old new runs lanes (omega (arith, all-pass-there l)) few size risen
+        risen-lanes l (sideWith l matrix samples gains slots delays side) slots k old new runs lanes (let b = bounds l in omega arith) few size risen
         (λ i n u h. heard .is i n u h ∙ later-side l matrix samples gains slots delays k chains r (k + i) (omega arith) n side)
 
     pub turned-lanes : (lefts rights new-left new-right : List Float) (memory : ℕ → List Float) → lanes ≤ 4 → Heard leftOf lefts → Heard rightOf rights → Left memory

@@ -13,7 +13,7 @@ use Rattle.lists.specs.Part.{part}
 use Rattle.planar.specs.Cells.{cell, planar}
 use Rattle.planar.specs.Frame.{sampleAt}
 use Rattle.ps_decorr_allpass.specs.Memory.{channelOf}
-use Rattle.ps_hybrid_synthesis.specs.Lanes.{on}
+use Rattle.planar.specs.Lanes.{on}
 use Rattle.standard.specs.declared.Chain.{Chain}
 use Rattle.standard.specs.declared.Link.{Link}
 use Rattle.standard.specs.Channel.{Channel, back, chainFrom, linkState, linkOutput, channelAt, pastAt, thirdOutput}

@@ -11,8 +11,9 @@ use lib.ListN.{length, getD}
 use Rattle.complex.specs.declared.Complex.{Complex}
 use Rattle.complex.specs.Operations.{scaled}
 use Rattle.layout.specs.declared.Layout.{Layout}
+use Rattle.limits.specs.Limits as limits
 use Rattle.planar.specs.Cells.{cell}
-use Rattle.ps_hybrid_synthesis.specs.Lanes.{on}
+use Rattle.planar.specs.Lanes.{on}
 use Rattle.ps_map.specs.Bands.{conjugatedOf}
 use Rattle.ps_stereo_slots.specs.Slots.{borderMatrix}
 use Rattle.standard.specs.declared.Chain.{Chain}
@@ -107,8 +108,8 @@ pub record FourMixed (marks : ℕ → Bool) (matrix : ℕ → Matrix) (heard : �
 -- the lists of a stretch
 pub record Stretch (constants ways fractions ducks tape lefts rights : List Float) : Type 0 where
   pub constants-long : length constants ≡ 44
-  pub ways-long : length ways ≡ 160
-  pub fractions-long : length fractions ≡ 128
+  pub ways-long : length ways ≡ 32 * limits.borders
+  pub fractions-long : length fractions ≡ limits.fractions
   pub ducks-long : length ducks ≡ 128
   pub tape-long : length tape ≡ 1136
   pub lefts-long : length lefts ≡ 256

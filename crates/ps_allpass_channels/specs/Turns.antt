@@ -5,6 +5,7 @@ use mathlib.Core.Path.{_≡_}
 use lib.IntN.{ℤ}
 use lib.Ieee.{Float}
 use Rattle.layout.specs.declared.Layout.{Layout}
+use Rattle.limits.specs.Limits as limits
 use Rattle.ps_map.specs.Bands.{parameterMap}
 use Rattle.standard.specs.declared.Matrix.{Matrix}
 use Rattle.standard.specs.Channel.{rotationsOf}
@@ -15,7 +16,7 @@ use Rattle.ps_allpass_channels.specs.Sides.{slotMatrix}
 pub record Lent (l : Layout) (map : List ℕ) (table : List ℤ) (count slots : ℕ) : Type 0 where
   pub bands : map ≡ parameterMap l
   pub rotations : table ≡ rotationsOf l
-  pub envelopes : count ≤ 4
+  pub envelopes : count ≤ limits.envelopes
   pub few : slots ≤ 32
 
 -- band b's coefficients in slot n

@@ -8,7 +8,7 @@ mod turn;
 
 use layout::Layout;
 ghost use mathlib.Core.Path.{_≡_};
-ghost use Prim.Native.Nat.{_*_, _≤_, min};
+ghost use Prim.Native.Nat.{_*_, _≤_};
 ghost use lib.ListN.{length};
 ghost use Rattle.layout.specs.Numbers.{allPassOf};
 ghost use Rattle.standard.specs.Channel.{rotationsOf};
@@ -16,12 +16,6 @@ ghost use Rattle.ps_allpass_channels.specs.Channels.{leftAfter, rightAft
 ghost use Rattle.ps_allpass_channels.specs.Sides.{Regions};
 ghost use Rattle.ps_allpass_channels.specs.Sofar.{Turned, Sofar};
 ghost use Rattle.ps_allpass_channels.specs.Turns.{Lent, matrixBy, matrixOf};
-
-fn least(a: usize, b: usize) -> usize
-    ensures { λ r. ⌜ r ≡ min a b ⌝ }
-{
-    if a < b { a } else { b }
-}
 
 // The channels from `first` to before `end` in rising order, four at a time, and then those that are left.
 fn each(
@@ -32,14 +26,14 @@ fn each(
     table: &[i64],
     regions: &[u8; 32],
     count: usize,
-    fractions: &[f64; 128],
+    fractions: &[f64; limits::FRACTIONS],
     samples: &[f64; 3200],
     gains: &[f64; 1088],
-    rows: &[f64; 1360],
+    rows: &[f64; limits::MATRICES],
     delays: &mut [f64],
     slots: usize,
     constants: &mut [f64; 44],
-    ways: &mut [f64; 160],
+    ways: &mut [f64; mixing::WAYS],
     ducks: &mut [f64; 128],
     tape: &mut [f64; 1136],
     lefts: &mut [f64; 256],
@@ -54,7 +48,7 @@ fn each(
 {
     let mut k = first;
     while k < end {
-        let lanes = least(4, end - k);
+        let lanes = limits::least(4, end - k);
         turn::turn(
             layout,
             k,
@@ -86,11 +80,11 @@ fn each(
 fn frame(
     layout: Layout,
     table: &[i64],
-    borders: [u8; 4],
+    borders: [u8; limits::ENVELOPES],
     count: usize,
     samples: &[f64; 3200],
     gains: &[f64; 1088],
-    rows: &[f64; 1360],
+    rows: &[f64; limits::MATRICES],
     delays: &mut [f64],
     slots: usize,
     left: &mut [f64],
@@ -103,16 +97,16 @@ fn frame(
 {
     let map = ps_map::parameter_map(layout);
     let mut regions = [0u8; 32];
-    let mut fractions = [0.0f64; 128];
+    let mut fractions = [0.0f64; limits::FRACTIONS];
     let mut constants = [0.0f64; 44];
-    let mut ways = [0.0f64; 160];
+    let mut ways = [0.0f64; mixing::WAYS];
     let mut ducks = [0.0f64; 128];
     let mut tape = [0.0f64; 1136];
     let mut lefts = [0.0f64; 256];
     let mut rights = [0.0f64; 256];
     ps_stereo_slots::regions(borders, count, &mut regions);
     ps_stereo_slots::fractions(borders, count, &mut fractions);
-    let envelopes = least(count, 4);
+    let envelopes = limits::least(count, limits::ENVELOPES);
     let unsplit = layout.unsplit_from();
     each(
         layout,
@@ -165,11 +159,11 @@ fn frame(
 // With the layout's table of rotations.
 fn rotated(
     layout: Layout,
-    borders: [u8; 4],
+    borders: [u8; limits::ENVELOPES],
     count: usize,
     samples: &[f64; 3200],
     gains: &[f64; 1088],
-    rows: &[f64; 1360],
+    rows: &[f64; limits::MATRICES],
     delays: &mut [f64],
     slots: usize,
     left: &mut [f64],
@@ -219,11 +213,11 @@ fn rotated(
 // What a frame's channels have in common is lent: samples, ducking factors, the coefficients at the borders, and the memory of every chain.
 pub fn allpass_channels(
     layout: Layout,
-    borders: [u8; 4],
+    borders: [u8; limits::ENVELOPES],
     count: usize,
     samples: &[f64; 3200],
     gains: &[f64; 1088],
-    rows: &[f64; 1360],
+    rows: &[f64; limits::MATRICES],
     delays: &mut [f64; 1400],
     slots: usize,
     left: &mut [f64],
@@ -233,7 +227,7 @@ pub fn allpass_channels(
     ensures right { λ _. ⌜ now (right .exit) ≡ rightAfter layout borders count (now (samples .entry)) (now (gains .entry)) (now (rows .entry)) (now (delays .entry)) slots (now (left .entry)) (now (right .entry)) ⌝ }
     ensures delays { λ _. ⌜ now (delays .exit) ≡ delaysAfter layout borders count (now (samples .entry)) (now (gains .entry)) (now (rows .entry)) (now (delays .entry)) slots (now (left .entry)) (now (right .entry)) ⌝ }
 {
-    let within = least(slots, 32);
+    let within = limits::least(slots, 32);
     if left.len() != 128 * within {
         return;
     }

@@ -1,11 +1,11 @@
 // Coefficients and ducking factors in lanes, and the mixing of a slot (source document 000, §8.6.4.6). Private to the crate.
-use super::least;
 use complex::Complex;
 use standard::Matrix;
 ghost use mathlib.Core.Bool.{cond};
 ghost use mathlib.Core.Path.{_≡_};
-ghost use Prim.Native.Nat.{_+_, _<_, _≤_};
+ghost use Prim.Native.Nat.{_+_, _*_, _<_, _≤_};
 ghost use lib.ListN.{length};
+ghost use Rattle.limits.specs.Limits as limits;
 ghost use Rattle.planar.specs.Frame.{keptMatrix};
 ghost use Rattle.ps_stereo_slots.specs.Regions.{stepOf, stepped};
 ghost use Rattle.standard.specs.Mixing as mixing;
@@ -40,9 +40,12 @@ pub fn mixed(marked: bool, h: Matrix, s: Complex, d: Complex) -> Sides
 
 // ---- coefficients
 
+// At each border eight numbers of each of four lanes.
+pub const WAYS: usize = 32 * limits::BORDERS;
+
 // Those of a lane at border e.
 fn held(ways: &[f64], e: usize, lane: usize) -> Matrix
-    requires { ⌜ (length (now ways) ≡ 160) × ((e < 5) × (lane < 4)) ⌝ }
+    requires { ⌜ (length (now ways) ≡ 32 * limits.borders) × ((e < limits.borders) × (lane < 4)) ⌝ }
     ensures { λ r. ⌜ r ≡ matrixOn lane (now (ways .entry)) e ⌝ }
 {
     let at = 32 * e + lane;
@@ -94,7 +97,7 @@ fn step(from: Matrix, to: Matrix) -> Matrix
 
 // From border e to another.
 pub fn way_from(ways: &[f64], e: usize, next: usize, lane: usize) -> Way
-    requires { ⌜ (length (now ways) ≡ 160) × ((e < 5) × ((next < 5) × (lane < 4))) ⌝ }
+    requires { ⌜ (length (now ways) ≡ 32 * limits.borders) × ((e < limits.borders) × ((next < limits.borders) × (lane < 4))) ⌝ }
     ensures from { λ r. ⌜ r .from ≡ matrixOn lane (now (ways .entry)) e ⌝ }
     ensures step { λ r. ⌜ r .step ≡ stepOf (matrixOn lane (now (ways .entry)) e) (matrixOn lane (now (ways .entry)) next) ⌝ }
 {
@@ -132,7 +135,7 @@ pub fn on_way(way: Way, t: f64, held: bool) -> Matrix
 
 // Coefficients that are kept as eight numbers into a lane of border e.
 fn put(numbers: &[f64], e: usize, lane: usize, out: &mut [f64])
-    requires { ⌜ (length (now numbers) ≡ 8) × ((e < 5) × ((lane < 4) × (length (now out) ≡ 160))) ⌝ }
+    requires { ⌜ (length (now numbers) ≡ 8) × ((e < limits.borders) × ((lane < 4) × (length (now out) ≡ 32 * limits.borders))) ⌝ }
     ensures own { λ _. ⌜ matrixOn lane (now (out .exit)) e ≡ keptMatrix (now (numbers .entry)) ⌝ }
     ensures others { λ _. ⌜ OtherMatrices lane e (now (out .entry)) (now (out .exit)) ⌝ }
 {
@@ -147,21 +150,15 @@ fn put(numbers: &[f64], e: usize, lane: usize, out: &mut [f64])
     out[at + 28] = numbers[7];
 }
 
-fn wide(x: u8) -> usize
-    ensures { λ r. ⌜ r ≡ x ⌝ }
-{
-    x as usize
-}
-
 // The channels from k on at border e, each in its lane.
 fn border(rows: &[f64], map: &[u8; 91], k: usize, lanes: usize, e: usize, out: &mut [f64])
-    requires { ⌜ (k + lanes ≤ 50) × ((lanes ≤ 4) × (e < 5)) ⌝ }
-    requires { ⌜ (length (now rows) ≡ 1360) × (Banded (now map) × (length (now out) ≡ 160)) ⌝ }
+    requires { ⌜ (k + lanes ≤ 50) × ((lanes ≤ 4) × (e < limits.borders)) ⌝ }
+    requires { ⌜ (length (now rows) ≡ limits.matrices) × (Banded (now map) × (length (now out) ≡ 32 * limits.borders)) ⌝ }
     ensures own { λ _. ⌜ Border (now (rows .entry)) (now (map .entry)) k lanes e (now (out .exit)) ⌝ }
     ensures others { λ _. ⌜ OtherBorders e (now (out .entry)) (now (out .exit)) ⌝ }
 {
     for lane in 0..lanes {
-        let band = wide(map[k + lane]);
+        let band = limits::wide(map[k + lane]);
         let at = 272 * e + 8 * band;
         put(&rows[at..at + 8], e, lane, out);
     }
@@ -169,8 +166,8 @@ fn border(rows: &[f64], map: &[u8; 91], k: usize, lanes: usize, e: usize, out: &
 
 // At each border of a frame.
 pub fn ways(rows: &[f64], map: &[u8; 91], k: usize, lanes: usize, count: usize, out: &mut [f64])
-    requires { ⌜ (k + lanes ≤ 50) × ((lanes ≤ 4) × (count ≤ 4)) ⌝ }
-    requires { ⌜ (length (now rows) ≡ 1360) × (Banded (now map) × (length (now out) ≡ 160)) ⌝ }
+    requires { ⌜ (k + lanes ≤ 50) × ((lanes ≤ 4) × (count ≤ limits.envelopes)) ⌝ }
+    requires { ⌜ (length (now rows) ≡ limits.matrices) × (Banded (now map) × (length (now out) ≡ 32 * limits.borders)) ⌝ }
     ensures { λ _. ⌜ Ways (now (rows .entry)) (now (map .entry)) k lanes count (now (out .exit)) ⌝ }
 {
     for e in 0..count + 1 {
@@ -206,10 +203,10 @@ pub fn ducks(gains: &[f64], map: &[u8; 91], k: usize, lanes: usize, slots: usize
     ensures { λ _. ⌜ Ducks (now (gains .entry)) (now (map .entry)) k lanes slots (now (out .exit)) ⌝ }
 {
     let last = lanes - 1;
-    let a = 32 * wide(map[k]);
-    let b = 32 * wide(map[k + least(1, last)]);
-    let c = 32 * wide(map[k + least(2, last)]);
-    let d = 32 * wide(map[k + last]);
+    let a = 32 * limits::wide(map[k]);
+    let b = 32 * limits::wide(map[k + limits::least(1, last)]);
+    let c = 32 * limits::wide(map[k + limits::least(2, last)]);
+    let d = 32 * limits::wide(map[k + last]);
     lay(
         &gains[a..a + 32],
         &gains[b..b + 32],

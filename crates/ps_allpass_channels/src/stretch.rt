@@ -1,7 +1,6 @@
 // The slots of a frame for four lanes at once: each chain goes one slot further, and what it gives is mixed with the sample while it is at hand.
 // Private to the crate.
 use super::chains;
-use super::least;
 use super::mixing;
 use super::tape;
 use complex::Complex;
@@ -11,9 +10,13 @@ use standard::Matrix;
 ghost use mathlib.Core.Path.{_≡_};
 ghost use Prim.Native.Nat.{_+_, _<_, _≤_};
 ghost use lib.ListN.{length};
+ghost use Rattle.limits.specs.Limits as limits;
 ghost use Rattle.ps_allpass_channels.specs.Lanes.{chainOn};
 ghost use Rattle.ps_allpass_channels.specs.Tape.{fourOf};
 ghost use Rattle.ps_allpass_channels.specs.Sides.{matrixOn, duckOn, regionMatrix, slotMatrix, marksFrom, FourStepped, FourMixed, FourPut, Stretch, Alike, Regions, Sided};
+
+// The last envelope that a frame can have: behind it coefficients are held, and no fraction is asked for.
+const LAST: usize = limits::ENVELOPES - 1;
 
 // What the chains of four lanes give in a slot.
 struct Heard {
@@ -133,7 +136,7 @@ fn stretch(
     lefts: &mut [f64],
     rights: &mut [f64],
 )
-    requires { ⌜ (k ≤ 50) × ((e ≤ count) × ((count ≤ 4) × ((begin ≤ end) × (end ≤ 32)))) ⌝ }
+    requires { ⌜ (k ≤ 50) × ((e ≤ count) × ((count ≤ limits.envelopes) × ((begin ≤ end) × (end ≤ 32)))) ⌝ }
     requires { ⌜ Stretch (now constants) (now ways) (now fractions) (now ducks) (now tape) (now lefts) (now rights) ⌝ }
     ensures { λ _. ⌜ Sided (λ i. chainOn i (now (constants .entry))) (marksFrom layout k) (λ i. regionMatrix e (now (fractions .entry)) count (matrixOn i (now (ways .entry))))
         (λ i. duckOn i (now (ducks .entry))) begin end
@@ -143,13 +146,13 @@ fn stretch(
     let second = chains::chain(constants, 1);
     let third = chains::chain(constants, 2);
     let fourth = chains::chain(constants, 3);
-    let next = least(e + 1, count);
+    let next = limits::least(e + 1, count);
     let one = mixing::way_from(ways, e, next, 0);
     let two = mixing::way_from(ways, e, next, 1);
     let three = mixing::way_from(ways, e, next, 2);
     let four = mixing::way_from(ways, e, next, 3);
     let held = e == count;
-    let shares = 32 * least(e, 3);
+    let shares = 32 * limits::least(e, LAST);
     for n in begin..end {
         let t = fractions[shares + n];
         let heard = step_all(first, second, third, fourth, n, tape);
@@ -186,12 +189,6 @@ fn stretch_end(regions: &[u8; 32], n: usize, slots: usize) -> usize
     next
 }
 
-fn wide(x: u8) -> usize
-    ensures { λ r. ⌜ r ≡ x ⌝ }
-{
-    x as usize
-}
-
 // All slots of a frame, stretch after stretch.
 pub fn run(
     layout: Layout,
@@ -207,7 +204,7 @@ pub fn run(
     lefts: &mut [f64],
     rights: &mut [f64],
 )
-    requires { ⌜ (k ≤ 50) × ((count ≤ 4) × ((slots ≤ 32) × Regions count (now regions))) ⌝ }
+    requires { ⌜ (k ≤ 50) × ((count ≤ limits.envelopes) × ((slots ≤ 32) × Regions count (now regions))) ⌝ }
     requires { ⌜ Stretch (now constants) (now ways) (now fractions) (now ducks) (now tape) (now lefts) (now rights) ⌝ }
     ensures { λ _. ⌜ Sided (λ i. chainOn i (now (constants .entry))) (marksFrom layout k)
         (λ i. slotMatrix (now (regions .entry)) (now (fractions .entry)) count (matrixOn i (now (ways .entry)))) (λ i. duckOn i (now (ducks .entry))) 0 slots
@@ -221,7 +218,7 @@ pub fn run(
             k,
             constants,
             ways,
-            wide(regions[n]),
+            limits::wide(regions[n]),
             count,
             fractions,
             n,

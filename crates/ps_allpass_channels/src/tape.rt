@@ -1,13 +1,12 @@
 // Channels onto the lanes of a tape and back: cell j of lane i stands at 8 j + i of the tape, its imaginary part four places behind it. Private to the
 // crate.
-use super::least;
 use complex::Complex;
 ghost use mathlib.Core.Path.{_≡_};
 ghost use Prim.Native.Nat.{_+_, _*_, _<_, _≤_};
 ghost use lib.ListN.{length};
 ghost use Rattle.lists.specs.Part.{put};
 ghost use Rattle.lists.specs.Rows.{rows};
-ghost use Rattle.ps_hybrid_synthesis.specs.Lanes.{on};
+ghost use Rattle.planar.specs.Lanes.{on};
 ghost use Rattle.ps_allpass_channels.specs.Tape.{Others, Spread, Gathered, Laid, fourOf};
 ghost use Rattle.ps_allpass_channels.specs.Lanes.{Remembered, AllRemembered, Entered, memoryLeft};
 
@@ -115,8 +114,8 @@ pub fn enter(
     recall_all(k, lanes, memory, tape);
     let last = lanes - 1;
     let a = 64 * k;
-    let b = 64 * (k + least(1, last));
-    let c = 64 * (k + least(2, last));
+    let b = 64 * (k + limits::least(1, last));
+    let c = 64 * (k + limits::least(2, last));
     let d = 64 * (k + last);
     lay(
         &samples[a..a + 64],

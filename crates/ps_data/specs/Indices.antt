@@ -1,35 +1,35 @@
--- §8.5.2, document 01, 'Indices': the absolute indices of a frame, and what the next frame's time rows start from. Assumes nothing.
+-- §8.5.2, document 01, 'Indices': the absolute indices of a frame, and what the lines so far have left for the next one. Assumes nothing.
 use Prim.Native.Nat.{ℕ, _%_, min}
 use mathlib.Core.List.{List, []}
-use mathlib.Core.Bool.{Bool, cond, _||_, _&&_}
-use lib.Dec.{ltb, eqb}
+use mathlib.Core.Bool.{Bool, false, cond, _||_, _&&_}
+use lib.Dec.{eqb}
 use lib.ListN.{replicate, take, drop}
-use Rattle.lists.specs.Held.{held}
+use Rattle.limits.specs.Limits as limits
+use Rattle.lists.specs.Padded.{padded}
 use Rattle.answer.specs.declared.Answer.{Answer}
 use Rattle.answer.specs.declared.Answer.the-variants.{Done, Quiet}
 use Rattle.layout.specs.declared.Layout.{Layout}
 use Rattle.layout.specs.declared.Layout.the-variants.{Bands20, Bands34}
+use Rattle.cue.specs.declared.Block.{Block}
 use Rattle.cue.specs.declared.Config.{Config}
 use Rattle.cue.specs.declared.Parameter.{Parameter}
+use Rattle.cue.specs.declared.Places.{Places}
 use Rattle.cue.specs.declared.Header.{Header}
 use Rattle.cue.specs.declared.Line.{Line}
 use Rattle.cue.specs.declared.Line.the-variants.{Read, Refused}
-use Rattle.cue.specs.Fields.{countOf, phaseCountOf, placesOf}
+use Rattle.cue.specs.Fields.{fineOf}
 use Rattle.cue.specs.Line.{readLine}
 use Rattle.ps_rows.specs.declared.Kind.{Kind}
 use Rattle.ps_rows.specs.declared.Kind.the-variants.{Coarse, Fine, Coherence, Phase}
 use Rattle.ps_rows.specs.declared.Row.{Row}
 use Rattle.ps_rows.specs.declared.ResolvedKind.{ResolvedKind}
-use Rattle.ps_rows.specs.Rows.{heldRow, heldRows, resolveKind}
+use Rattle.ps_rows.specs.Rows.{paddedRow, paddedRows, resolveKind}
 use Rattle.ps_data.specs.declared.PsIndexState.{PsIndexState}
 use Rattle.ps_data.specs.declared.PsIndices.{PsIndices}
+use Rattle.ps_data.specs.declared.PsLines.{PsLines}
 use Rattle.ps_data.specs.declared.Resolved.{Resolved}
 
 -- ---- configuration
-
--- the default quantiser for iid_mode 0..2, the fine one for 3..5 (Table 8.24)
-abbrev pub quantiserOf : ℕ → Kind
-quantiserOf mode = cond (ltb mode 3) Coarse Fine
 
 -- a present kind whose mode is 2 modulo 3 has 34 bands
 abbrev pub onThirtyFour : Parameter → Bool
@@ -39,70 +39,78 @@ onThirtyFour p = p .present && eqb (p .mode % 3) 2
 abbrev pub layoutOf : Config → Layout
 layoutOf c = cond (onThirtyFour (c .iid) || onThirtyFour (c .icc)) Bands34 Bands20
 
+-- an empty line leaves the configuration in force, and so the layout
+abbrev pub layoutIn : Layout → Header → Layout
+layoutIn old h = cond (h .cued) (layoutOf (h .config)) old
+
 -- a line that is read is quiet if it is empty and no configuration has come yet
 abbrev pub readAnswer : Header → Bool → Answer
 readAnswer h configured = cond (h .cued || configured) Done Quiet
 
--- ---- indices
+-- ---- what the lines so far have left
 
 -- no row is kept
-abbrev pub freshIndices : PsIndexState
-freshIndices = record { iid = heldRow []; icc = heldRow []; ipd = heldRow []; opd = heldRow [] }
+abbrev pub noRows : PsIndexState
+noRows = record { iid = paddedRow []; icc = paddedRow []; ipd = paddedRow []; opd = paddedRow [] }
+
+-- no line has come
+abbrev pub freshLines : PsLines
+freshLines = record { configured = false; rows = noRows }
+
+-- a line that is read, and the rows that it leaves
+abbrev pub linesAfter : PsLines → Header → PsIndexState → PsLines
+linesAfter s h rows = record { configured = s .configured || h .cued; rows = rows }
+
+-- ---- indices
 
 abbrev pub noIndices : PsIndices
-noIndices = record { iid = heldRows []; icc = heldRows []; ipd = heldRows []; opd = heldRows [] }
+noIndices = record { iid = paddedRows []; icc = paddedRows []; ipd = paddedRows []; opd = paddedRows [] }
 
 -- a kind that is absent in a frame with envelopes is forgotten
 abbrev pub forgotten : ResolvedKind
-forgotten = record { rows = heldRows []; kept = heldRow [] }
+forgotten = record { rows = paddedRows []; kept = paddedRow [] }
 
-abbrev pub kindOf : Bool → Kind → Row → ℕ → ℕ → List ℕ → ResolvedKind
-kindOf present kind kept envelopes count bytes = cond present (resolveKind kind kept envelopes count bytes) forgotten
+-- the rows of a kind, from its place in the line
+abbrev pub kindOf : Kind → Row → ℕ → Block → List ℕ → ResolvedKind
+kindOf kind kept envelopes k bytes = cond (k .present) (resolveKind kind kept envelopes (k .count) (drop (k .place) bytes)) forgotten
 
--- the border bytes, in four places, where borders are variable
+-- the default quantiser for iid_mode 0 to 2, the fine one for 3 to 5 (Table 8.24)
+abbrev pub quantiserOf : Config → Kind
+quantiserOf c = cond (fineOf c) Fine Coarse
+
+-- the border bytes, in a frame's places, where borders are variable
 abbrev pub positionsOf : Header → List ℕ → List ℕ
-positionsOf h bytes = cond (h .variable) (held 4 0 (take (min (h .envelopes) 4) (drop 4 bytes))) (replicate 4 0)
+positionsOf h bytes =
+    cond (h .variable) (padded limits.envelopes 0 (take (min (h .envelopes) limits.envelopes) (drop 4 bytes))) (replicate limits.envelopes 0)
 
--- the rows of each kind, from its place in the line
-abbrev pub iidOf : Row → Header → List ℕ → ResolvedKind
-iidOf kept h bytes =
-    let iid = h .config .iid in
-    kindOf (iid .present) (quantiserOf (iid .mode)) kept (h .envelopes) (countOf iid) (drop (placesOf h .iid) bytes)
+-- nothing is resolved
+abbrev pub unresolved : PsLines → Line → Resolved
+unresolved lines line = record { line = line; lines = lines; indices = noIndices; positions = replicate limits.envelopes 0 }
 
-abbrev pub iccOf : Row → Header → List ℕ → ResolvedKind
-iccOf kept h bytes =
-    let icc = h .config .icc in
-    kindOf (icc .present) Coherence kept (h .envelopes) (countOf icc) (drop (placesOf h .icc) bytes)
-
-abbrev pub ipdOf : Row → Header → List ℕ → ResolvedKind
-ipdOf kept h bytes = kindOf (h .phase) Phase kept (h .envelopes) (phaseCountOf (h .config)) (drop (placesOf h .ipd) bytes)
-
-abbrev pub opdOf : Row → Header → List ℕ → ResolvedKind
-opdOf kept h bytes = kindOf (h .phase) Phase kept (h .envelopes) (phaseCountOf (h .config)) (drop (placesOf h .opd) bytes)
-
--- nothing is resolved, and nothing kept changes
-abbrev pub unresolved : PsIndexState → Line → Resolved
-unresolved state line = record { line = line; state = state; indices = noIndices; positions = replicate 4 0 }
-
--- the rows of the kinds
-abbrev pub collected : Line → ResolvedKind → ResolvedKind → ResolvedKind → ResolvedKind → List ℕ → Resolved
-collected line iid icc ipd opd positions =
+-- the rows of the four kinds
+abbrev pub collected : PsLines → Header → ResolvedKind → ResolvedKind → ResolvedKind → ResolvedKind → List ℕ → Resolved
+collected s h iid icc ipd opd positions =
     record {
-      line = line;
-      state = record { iid = iid .kept; icc = icc .kept; ipd = ipd .kept; opd = opd .kept };
+      line = Read h;
+      lines = linesAfter s h (record { iid = iid .kept; icc = icc .kept; ipd = ipd .kept; opd = opd .kept });
       indices = record { iid = iid .rows; icc = icc .rows; ipd = ipd .rows; opd = opd .rows };
       positions = positions;
     }
 
 -- a frame with envelopes
-unfoldable pub resolved : PsIndexState → Header → List ℕ → Resolved
-resolved s h bytes =
-    collected (Read h) (iidOf (s .iid) h bytes) (iccOf (s .icc) h bytes) (ipdOf (s .ipd) h bytes) (opdOf (s .opd) h bytes) (positionsOf h bytes)
+unfoldable pub resolved : PsLines → Header → Places → List ℕ → Resolved
+resolved s h at bytes =
+    collected s h
+    (kindOf (quantiserOf (h .config)) (s .rows .iid) (h .envelopes) (at .iid) bytes)
+    (kindOf Coherence (s .rows .icc) (h .envelopes) (at .icc) bytes)
+    (kindOf Phase (s .rows .ipd) (h .envelopes) (at .ipd) bytes)
+    (kindOf Phase (s .rows .opd) (h .envelopes) (at .opd) bytes)
+    (positionsOf h bytes)
 
 -- no envelopes change no index, and a refused line changes nothing
-abbrev pub byLine : PsIndexState → Line → List ℕ → Resolved
-byLine s (Read h) bytes = cond (eqb (h .envelopes) 0) (unresolved s (Read h)) (resolved s h bytes)
-byLine s (Refused a) bytes = unresolved s (Refused a)
+abbrev pub byLine : PsLines → Line → Places → List ℕ → Resolved
+byLine s (Read h) at bytes = cond (eqb (h .envelopes) 0) (unresolved (linesAfter s h (s .rows)) (Read h)) (resolved s h at bytes)
+byLine s (Refused a) at bytes = unresolved s (Refused a)
 
-unfoldable pub resolveLine : PsIndexState → List ℕ → Resolved
-resolveLine s text = byLine s (readLine text .line) (readLine text .bytes)
+unfoldable pub resolveLine : PsLines → List ℕ → Resolved
+resolveLine s text = byLine s (readLine text .line) (readLine text .places) (readLine text .bytes)

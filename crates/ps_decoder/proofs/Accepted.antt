@@ -1,24 +1,22 @@
 -- An accepted call: what the stages give from the numbers made ready is what the call's definition says. Assumes nothing.
 use Prim.Native.Nat.{ℕ, _-_, _*_, _≤_, _<_}
 use native.Mathlib.Omega.{arith}
-use mathlib.Core.Path.{_≡_, refl, sym, ap, ap₂, _∙_}
-use mathlib.Core.Bool.{Bool, true, false, cond}
-use mathlib.Core.List.{List, []}
+use mathlib.Core.Path.{_≡_, refl, ap, ap₂, _∙_}
+use mathlib.Core.Bool.{true}
 use borrow.Author.Tests.{le-ltb}
-use lib.Ieee.{Float}
 use lib.ListN.{length}
 use Rattle.borders.specs.Borders.{slotsOf}
-use Rattle.calls.specs.Call.{Call, Playing, buffersFit, resolved, headerOf, header, layout, head, pastReady, slotAt, frameOf, after, rowsOf}
+use Rattle.calls.specs.Call.{Call, Playing, buffersFit, resolved, header, layout, head, pastReady, slotAt, frameOf, after, rowsOf}
 use Rattle.calls.specs.Near.{Alike, NearCore, Near}
 use Rattle.calls.proofs.Channels.{past-alike}
 use Rattle.calls.proofs.Frames.{SoundsAs, near-frame, left-rows, right-rows}
 use Rattle.calls.proofs.Rows.{hybrid-same}
 use Rattle.complex.specs.declared.Complex.{Complex}
 use Rattle.cue.specs.declared.Header.{Header}
-use Rattle.cue.specs.declared.Line.the-variants.{Read}
 use Rattle.layout.specs.declared.Layout.{Layout}
 use Rattle.layout.specs.declared.Layout.the-variants.{Bands20, Bands34}
-use Rattle.layout.specs.Numbers.{splitOf, bandsOf, channelsOf}
+use Rattle.layout.specs.Numbers.{splitOf}
+use Rattle.layout.proofs.Bounds.{bounds}
 use Rattle.lists.specs.Part.{part}
 use Rattle.planar.specs.Frame.{qmfAt, qmfRows}
 use Rattle.planar.specs.Window.{historyOf}
@@ -28,13 +26,12 @@ use Rattle.ps_state.specs.Ready.{switchedFrom, readied}
 use Rattle.ps_state.specs.Shape.{Shaped}
 use Rattle.ps_state.proofs.Alike.{stored-near}
 use Rattle.ps_state.proofs.Readied.{near-readied, readied-history}
-use Rattle.standard.specs.Channel.{back, pastAt}
 use Rattle.standard.specs.Core as core
-use Rattle.standard.specs.Core.{Head, Frame, Core, sameLayout, ready, leftAt, rightAt, next, envelopes}
+use Rattle.standard.specs.Core.{Frame, Core, sameLayout, ready, leftAt, rightAt}
 use Rattle.standard.specs.Hybrid.{hybrid, synthesised}
 use Rattle.ps_decoder.specs.Sound.{leftOf, rightOf, sounded}
-use Rattle.ps_decoder.proofs.Slots.{slotIn, pastAfter}
-use Rattle.ps_decoder.proofs.Stages.{Fitting, fitting-of, flatFrame, flatAfter, Stages, sound-is}
+use Rattle.ps_decoder.proofs.Slots.{slotIn}
+use Rattle.ps_decoder.proofs.Stages.{fitting-of, flatFrame, flatAfter, Stages, sound-is}
 
 -- ---- what making ready leaves
 
@@ -57,10 +54,6 @@ readied-asked l edge s = go (s .layout) l refl
     go Bands20 Bands34 e = rw e
     go Bands34 Bands20 e = rw e
     go Bands34 Bands34 e = rw e
-
-few-split : (l : Layout) (p : ℕ) → p < splitOf l → p < 5
-few-split Bands20 p u = omega arith
-few-split Bands34 p u = omega arith
 
 -- ---- the call
 
@@ -90,7 +83,7 @@ module _ (s : PsDecoder) (shaped : Shaped s) (c : Call) (h : Header) (said : hea
 
   past-made : (p : ℕ) → p < splitOf (layout before c) → Alike 6 (historyOf 6 6 (part (12 * p) 12 (made .history))) (pastReady before c p)
   unfolding pastReady playingOf coreOf
-  past-made p u = readied-history s (layout before c) (c .edge) shaped p (few-split (layout before c) p u)
+  past-made p u = readied-history s (layout before c) (c .edge) shaped p (omega (arith, bounds (layout before c) .split))
 
   slot-split : (p j : ℕ) → p < splitOf (layout before c) → slotIn (made .history) (c .input) p j ≡ slotAt before c p j
   unfolding slotAt
@@ -116,13 +109,12 @@ module _ (s : PsDecoder) (shaped : Shaped s) (c : Call) (h : Header) (said : hea
 
   -- ---- what is carried on
 
-  near-after : Near (flatAfter made (c .input) frame (resolved before c .state)) (after before c)
+  near-after : Near (flatAfter made (c .input) frame (resolved before c .lines)) (after before c)
   unfolding playingOf after core.after coreOf
   near-after =
       record {
         slots = same-slots;
-        configured = refl;
-        indices = refl;
+        lines = refl;
         past = λ p u.
             rw same-slots
             (past-alike 6 (historyOf 6 6 (part (12 * p) 12 (made .history))) (pastReady before c p) (λ n. qmfAt (c .input) n p) (slotsOf (s .asked))
@@ -136,10 +128,10 @@ module _ (s : PsDecoder) (shaped : Shaped s) (c : Call) (h : Header) (said : hea
         sound-is made h (resolved before c .indices) (resolved before c .positions) (c .input) (c .left) (c .right) (c .edge)
         (fitting-of made (c .input) (c .left) (c .right) (rw same-slots fits))
 
-    pub state-is : sounded made h (resolved before c .indices) (resolved before c .positions) (c .input) (c .left) (c .right) (resolved before c .state) ≡ stored made (after before c)
+    pub state-is : sounded made h (resolved before c .indices) (resolved before c .positions) (c .input) (c .left) (c .right) (resolved before c .lines) ≡ stored made (after before c)
     state-is =
-        staged .state-is (resolved before c .state)
-        ∙ stored-near made (flatAfter made (c .input) frame (resolved before c .state)) (after before c) near-after
+        staged .state-is (resolved before c .lines)
+        ∙ stored-near made (flatAfter made (c .input) frame (resolved before c .lines)) (after before c) near-after
 
     -- the same slots and layout
     rows-moved : (side : Frame → Core → ℕ → ℕ → Complex)

@@ -5,18 +5,19 @@ use mathlib.Core.Bool.{true}
 use mathlib.Core.List.{List}
 use lib.Ieee.{Float, binary64, ofBits}
 use lib.ListN.{replicate}
+use Rattle.limits.specs.Limits as limits
 use Rattle.borders.specs.Borders.{slotsOf, bordersOf}
 use Rattle.calls.specs.Call.{modesOf}
 use Rattle.cue.specs.declared.Header.{Header}
-use Rattle.lists.specs.Held.{held}
+use Rattle.lists.specs.Padded.{padded}
 use Rattle.ps_allpass_channels.specs.Channels as chains
-use Rattle.ps_data.specs.declared.PsIndexState.{PsIndexState}
+use Rattle.ps_data.specs.declared.PsLines.{PsLines}
 use Rattle.ps_data.specs.declared.PsIndices.{PsIndices}
 use Rattle.ps_decorr_transient.specs.Gains.{detectorsAfter, gainsAfter}
 use Rattle.ps_delay_channels.specs.Channels as delayed
 use Rattle.ps_hybrid_analysis.specs.Analysis.{historyAfter, samplesAfter}
 use Rattle.ps_state.specs.declared.PsDecoder.{PsDecoder}
-use Rattle.ps_state.proofs.Literals.{none}
+use Rattle.standard.proofs.Literals.{zero-is}
 use Rattle.ps_stereo.specs.declared.PsStereo.{PsStereo}
 use Rattle.ps_stereo_borders.specs.Borders.{rowsAfter, stereoAfter}
 use Rattle.ps_decoder.specs.Sound.{samplesOf, gainsOf, rowsOf, leftOf, rightOf, sounded}
@@ -31,21 +32,21 @@ module _ (s : PsDecoder) (h : Header) (indices : PsIndices) (positions : List �
     pub slots-are : slots ≡ slotsOf (s .asked)
     pub samples-are : samples ≡ samplesAfter (s .layout) (s .history) input (slotsOf (s .asked)) (blank 3200)
     pub gains-are : gains ≡ gainsAfter (s .layout) (s .decorr .detectors) samples input (min slots 32) (blank 1088)
-    pub rows-are : rows ≡ rowsAfter (s .layout) (modesOf h) (h .config) indices (s .stereo) (min (h .envelopes) 4) (blank 1360)
-    pub places-are : places ≡ held 4 0 (bordersOf (slotsOf (s .asked)) (h .variable) (min (h .envelopes) 4) positions)
+    pub rows-are : rows ≡ rowsAfter (s .layout) (modesOf h) (h .config) indices (s .stereo) (min (h .envelopes) limits.envelopes) (blank limits.matrices)
+    pub places-are : places ≡ padded limits.envelopes 0 (bordersOf (slotsOf (s .asked)) (h .variable) (min (h .envelopes) limits.envelopes) positions)
 
   module _ {slots : ℕ} {samples gains rows : List Float} {places : List ℕ} (given : Given slots samples gains rows places) where
     samples-is : samples ≡ samplesOf s h indices positions input left right
     unfolding samplesOf
-    samples-is = rw (← none) (given .samples-are)
+    samples-is = rw (← zero-is) (given .samples-are)
 
     gains-is : gains ≡ gainsOf s h indices positions input left right
     unfolding gainsOf
-    gains-is = rw (← none, ← samples-is, ← given .slots-are) (given .gains-are)
+    gains-is = rw (← zero-is, ← samples-is, ← given .slots-are) (given .gains-are)
 
     rows-is : rows ≡ rowsOf s h indices positions input left right
     unfolding rowsOf
-    rows-is = rw (← none) (given .rows-are)
+    rows-is = rw (← zero-is) (given .rows-are)
 
     -- both sides as the all-pass channels leave them
     abbrev pub lowLeft : List Float
@@ -76,23 +77,22 @@ module _ (s : PsDecoder) (h : Header) (indices : PsIndices) (positions : List �
       pub right-by : (new : List Float) → new ≡ rightThen → new ≡ rightOf s h indices positions input left right
       right-by new is = is ∙ right-is
 
-      pub state-is : (kept : PsIndexState) (history delays long short detectors : List Float) (stereo : PsStereo)
+      pub state-is : (lines : PsLines) (history delays long short detectors : List Float) (stereo : PsStereo)
           → history ≡ historyAfter (s .layout) (s .history) input (slotsOf (s .asked))
           → detectors ≡ detectorsAfter (s .layout) (s .decorr .detectors) samples input (min slots 32)
-          → stereo ≡ stereoAfter (s .layout) (modesOf h) (h .config) indices (s .stereo) (min (h .envelopes) 4)
+          → stereo ≡ stereoAfter (s .layout) (modesOf h) (h .config) indices (s .stereo) (min (h .envelopes) limits.envelopes)
           → delays ≡ chains.delaysAfter (s .layout) places (h .envelopes) samples gains rows (s .decorr .delays) slots left right
           → long ≡ delayed.longAfter (s .layout) places (h .envelopes) input gains rows (s .decorr .long) (s .decorr .short) slots low-left low-right
           → short ≡ delayed.shortAfter (s .layout) places (h .envelopes) input gains rows (s .decorr .long) (s .decorr .short) slots low-left low-right
           → record {
             asked = s .asked;
             layout = s .layout;
-            configured = true;
             cued = h .cued;
-            indices = kept;
+            lines = lines;
             history = history;
             decorr = record { delays = delays; long = long; short = short; detectors = detectors };
             stereo = stereo;
-          } ≡ sounded s h indices positions input left right kept
+          } ≡ sounded s h indices positions input left right lines
       unfolding sounded
-      state-is kept history delays long short detectors stereo history-is detectors-is stereo-is delays-is long-is short-is =
+      state-is lines history delays long short detectors stereo history-is detectors-is stereo-is delays-is long-is short-is =
           rw (history-is, detectors-is, stereo-is, delays-is, long-is, short-is, left-low, right-low, given .places-are, rows-is, gains-is, samples-is, given .slots-are)

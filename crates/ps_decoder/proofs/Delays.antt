@@ -12,8 +12,8 @@ use lib.ListN.{length}
 use Rattle.complex.specs.declared.Complex.{Complex}
 use Rattle.complex.specs.Operations.{scaled}
 use Rattle.layout.specs.declared.Layout.{Layout}
-use Rattle.layout.specs.declared.Layout.the-variants.{Bands20, Bands34}
 use Rattle.layout.specs.Numbers.{channelsOf, allPassOf, shortDelayOf, splitOf, unsplitFromOf}
+use Rattle.layout.proofs.Bounds.{bounds}
 use Rattle.lists.specs.Part.{part}
 use Rattle.lists.proofs.Rows.{rows-same}
 use Rattle.planar.specs.Frame.{qmfAt, qmfRows, qmfBandOf}
@@ -23,18 +23,12 @@ use Rattle.ps_delay_channels.specs.Channels as delayed
 use Rattle.ps_map.specs.Bands.{bandOf, conjugatedOf}
 use Rattle.ps_map.proofs.Bands.{band-small}
 use Rattle.ps_state.proofs.Alike.{long-inside, short-inside}
-use Rattle.standard.specs.declared.Chain.{Chain}
 use Rattle.standard.specs.declared.Matrix.{Matrix}
-use Rattle.standard.specs.Channel.{Channel, chainOf, back, channelAfter, channelAt, pastAt, channelOutput}
+use Rattle.standard.specs.Channel.{Channel, chainOf, back, pastAt, channelOutput}
 use Rattle.standard.specs.Core.{Frame, Core, channelThen, decorrelated, matrixThen}
 use Rattle.standard.specs.Mixing.{leftOf, rightOf}
+use Rattle.standard.proofs.Channels.{past-of}
 use Rattle.ps_decoder.proofs.Flat.{Flat, row-is}
-
--- a channel's chain does not bear on what came in
-past-of : (chain : Chain) (c : Channel) (x : ℕ → Complex) (n : ℕ) → channelAt chain c x n .past ≡ pastAt (c .past) x n
-unfolding channelAt channelAfter pastAt
-past-of chain c x zero = refl
-past-of chain c x (suc n) = ap (λ (h : List Complex). x n ∷ h) (past-of chain c x n)
 
 past-same : (past : List Complex) (x y : ℕ → Complex) (n : ℕ) → ((m : ℕ) → m < n → x m ≡ y m) → pastAt past x n ≡ pastAt past y n
 unfolding pastAt
@@ -49,10 +43,6 @@ past-kind false c d = refl
 reach-kind : (t : Bool) (h : List Complex) → back (cond t 13 0) h ≡ cond t (back 13 h) (back 0 h)
 reach-kind true h = refl
 reach-kind false h = refl
-
-all-pass-least : (l : Layout) → allPassOf l ≤ shortDelayOf l
-all-pass-least Bands20 = omega arith
-all-pass-least Bands34 = omega arith
 
 module _ {f : Frame} {s : Core} {places : List ℕ} {count : ℕ} {samples input gains rows delays long short : List Float}
     (flat : Flat f s places count samples input gains rows delays long short) where
@@ -129,4 +119,4 @@ module _ {f : Frame} {s : Core} {places : List ℕ} {count : ℕ} {samples input
     unfolding delayed.shortAfter shortWith
     short-after =
         rw (fits, all-slots)
-        (rows-same _ _ 29 (λ j u. ap (imageOf 1) (past-then (shortDelayOf l + j) slots (omega (arith, all-pass-least l)) (short-inside l j u) (omega arith))))
+        (rows-same _ _ 29 (λ j u. ap (imageOf 1) (past-then (shortDelayOf l + j) slots (omega (arith, bounds l .short)) (short-inside l j u) (omega arith))))

@@ -1,46 +1,25 @@
 -- From samples that agree, the powers, the detectors and the ducking factors of a frame agree with those of the definitions. Assumes nothing.
-use mathlib.Core.Path.{_≡_, refl, ap, ap₂, _∙_}
-use mathlib.Core.Bool.{Bool, true, false, cond, _&&_}
-use mathlib.Core.List.{List, _++_}
+use mathlib.Core.Path.{_≡_, ap, _∙_}
+use mathlib.Core.Bool.{Bool, true, cond, _&&_}
+use mathlib.Core.List.{List}
 use Prim.Native.Nat.{ℕ, suc, _+_, _*_, _/_, _%_, _<_, _≤_}
 use native.Mathlib.Omega.{arith}
-use borrow.Author.Tests.{lt-ltb, ltb-true}
+use borrow.Author.Tests.{lt-ltb}
 use lib.Dec.{ltb}
 use lib.Ieee.{Float, nan}
 use lib.ListN.{getD}
 use Rattle.complex.specs.declared.Complex.{Complex}
 use Rattle.layout.specs.declared.Layout.{Layout}
-use Rattle.layout.specs.declared.Layout.the-variants.{Bands20, Bands34}
 use Rattle.layout.specs.Numbers.{bandsOf, channelsOf}
+use Rattle.layout.proofs.Bounds.{bounds}
 use Rattle.lists.specs.Rows.{tabulate}
-use Rattle.lists.proofs.Maps.{tabulate-at, tabulate-same}
-use Rattle.planar.specs.Cells.{overwritten}
+use Rattle.lists.proofs.Maps.{tabulate-at}
 use Rattle.planar.specs.Frame.{sampleIn}
 use Rattle.ps_decorr.specs.Channels.{detectorsWith}
 use Rattle.ps_decorr_transient.specs.Gains.{detectorOf, powerAt, detectorThen, enough, detectorsAfter, gainsAfter}
+use Rattle.ps_state.proofs.Alike.{detectors-alike}
 use Rattle.standard.specs.Detector.{Detector, powerTo, detectorAt, ducking}
 use Rattle.standard.proofs.Frames.{power-same, detector-same}
-
-pub bands-few : (l : Layout) → bandsOf l ≤ 34
-bands-few Bands20 = omega arith
-bands-few Bands34 = omega arith
-
--- the detectors of the bands that a layout lacks are not read
-pub detectors-same : (l : Layout) (f g : ℕ → Detector) (old : List Float) → ((b : ℕ) → b < bandsOf l → f b ≡ g b) → detectorsWith l f old ≡ detectorsWith l g old
-unfolding detectorsWith
-detectors-same l f g old same =
-    ap₂ (λ (p q : List Float). p ++ q) (numbers (λ (d : Detector). d .peak))
-    (ap₂ (λ (p q : List Float). p ++ q) (numbers (λ (d : Detector). d .smooth)) (numbers (λ (d : Detector). d .difference)))
-  where
-    one : (b : ℕ) (t : Bool) → ltb b (bandsOf l) ≡ t → cond t (f b) (detectorOf old b) ≡ cond t (g b) (detectorOf old b)
-    one b true e = same b (ltb-true b (bandsOf l) e)
-    one b false e = refl
-
-    numbers : (number : Detector → Float)
-        → tabulate (λ b. number (overwritten (bandsOf l) f (detectorOf old) b)) 34 ≡ tabulate (λ b. number (overwritten (bandsOf l) g (detectorOf old) b)) 34
-    numbers number =
-        tabulate-same (λ b. number (overwritten (bandsOf l) f (detectorOf old) b)) (λ b. number (overwritten (bandsOf l) g (detectorOf old) b)) 34
-        (λ b u. ap number (one b (ltb b (bandsOf l)) refl))
 
 module _ (l : Layout) (memory samples input : List Float) (slots : ℕ) (sample : ℕ → ℕ → Complex)
     (same : (n k : ℕ) → n < slots → k < channelsOf l → sampleIn l samples input n k ≡ sample n k) where
@@ -58,14 +37,14 @@ module _ (l : Layout) (memory samples input : List Float) (slots : ℕ) (sample 
   unfolding detectorsAfter detectorsWith
   detectors-then room =
       rw room
-      (detectors-same l (λ b. detectorThen l memory samples input b slots) (λ b. detectorBy b slots) memory (λ b u. detector-then b slots (omega arith)))
+      (detectors-alike l (λ b. detectorThen l memory samples input b slots) (λ b. detectorBy b slots) (λ b u. detector-then b slots (omega arith)) memory)
 
   pub gain-same : enough l memory samples input slots ≡ true → (gains : List Float) → slots ≤ 32 → (b n : ℕ) → b < bandsOf l → n < slots
       → getD (gainsAfter l memory samples input slots gains) (32 * b + n) nan ≡ ducking (detectorBy b (suc n))
   unfolding gainsAfter
   gain-same room gains few b n h u =
       ap (λ (t : Bool). getD (cond t (tabulate gainAt 1088) gains) (32 * b + n) nan) room
-      ∙ tabulate-at gainAt 1088 (32 * b + n) nan (omega (arith, bands-few l))
+      ∙ tabulate-at gainAt 1088 (32 * b + n) nan (omega (arith, bounds l .bands))
       ∙ picked ((32 * b + n) / 32) ((32 * b + n) % 32) (omega arith) (omega arith)
       ∙ ap ducking (detector-then b (suc n) u)
     where

@@ -7,8 +7,8 @@ use borrow.Author.Tests.{lt-ltb, le-ltb}
 use lib.Ieee.{Float, nan}
 use lib.ListN.{getD}
 use Rattle.layout.specs.declared.Layout.{Layout}
-use Rattle.layout.specs.declared.Layout.the-variants.{Bands20, Bands34}
 use Rattle.layout.specs.Numbers.{bandsOf, channelsOf, allPassOf}
+use Rattle.layout.proofs.Bounds.{bounds}
 use Rattle.planar.specs.Frame.{sampleAt, qmfAt, qmfBandOf, sampleIn}
 use Rattle.ps_decorr.specs.Channels.{channelIn}
 use Rattle.ps_stereo_slots.specs.Slots.{bordersOf, borderMatrix}
@@ -21,10 +21,6 @@ pub record Flat (f : Frame) (s : Core) (places : List ℕ) (count : ℕ) (sample
   pub matrix : (b n : ℕ) → b < bandsOf (f .head .layout) → matrixIn (bordersOf places count) (borderMatrix rows b) n ≡ matrixThen f s b n
   pub channel : (k : ℕ) → channelIn (f .head .layout) delays long short k ≡ s .channel k
 
-pub all-pass-first : (l : Layout) → allPassOf l ≤ channelsOf l
-all-pass-first Bands20 = omega arith
-all-pass-first Bands34 = omega arith
-
 module _ {f : Frame} {s : Core} {places : List ℕ} {count : ℕ} {samples input gains rows delays long short : List Float}
     (flat : Flat f s places count samples input gains rows delays long short) where
   abbrev l : Layout
@@ -32,7 +28,7 @@ module _ {f : Frame} {s : Core} {places : List ℕ} {count : ℕ} {samples input
 
   -- an all-pass channel reads a column, a plain delay its QMF band
   pub column-is : (n k : ℕ) → n < f .head .slots → k < allPassOf l → sampleAt samples n k ≡ f .sample n k
-  column-is n k h u = rw (lt-ltb k (allPassOf l) u) at (flat .sample n k h (omega (arith, all-pass-first l)))
+  column-is n k h u = rw (lt-ltb k (allPassOf l) u) at (flat .sample n k h (let b = bounds l in omega arith))
 
   pub row-is : (n k : ℕ) → n < f .head .slots → allPassOf l ≤ k → k < channelsOf l → qmfAt input n (qmfBandOf l k) ≡ f .sample n k
   row-is n k h u w = rw (le-ltb k (allPassOf l) u) at (flat .sample n k h w)

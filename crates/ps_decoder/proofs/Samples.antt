@@ -11,8 +11,8 @@ use lib.Ieee.{Float}
 use lib.ListN.{length}
 use Rattle.complex.specs.declared.Complex.{Complex}
 use Rattle.layout.specs.declared.Layout.{Layout}
-use Rattle.layout.specs.declared.Layout.the-variants.{Bands20, Bands34}
 use Rattle.layout.specs.Numbers.{allPassOf, unsplitFromOf}
+use Rattle.layout.proofs.Bounds.{bounds}
 use Rattle.lists.specs.Part.{part}
 use Rattle.lists.specs.Rows.{rows}
 use Rattle.lists.proofs.Parts.{part-length}
@@ -23,14 +23,6 @@ use Rattle.planar.proofs.Cells.{planar-at, planar-length}
 use Rattle.ps_hybrid_analysis.specs.Analysis.{slotAt, enough, samplesAfter}
 use Rattle.standard.specs.Hybrid.{hybrid}
 use Rattle.ps_decoder.proofs.Slots.{slotIn, slot-same}
-
-all-pass-few : (l : Layout) → allPassOf l ≤ 50
-all-pass-few Bands20 = omega arith
-all-pass-few Bands34 = omega arith
-
-pub unsplit-first : (l : Layout) → unsplitFromOf l ≤ allPassOf l
-unsplit-first Bands20 = omega arith
-unsplit-first Bands34 = omega arith
 
 -- equal slots make equal samples
 hybrid-same : (l : Layout) (x y : ℕ → ℕ → Complex) (n k : ℕ) → ((p j : ℕ) → x p j ≡ y p j) → hybrid l x n k ≡ hybrid l y n k
@@ -55,7 +47,7 @@ module _ (l : Layout) (history input samples : List Float) (slots : ℕ) (long :
   run-at k u =
       let place : 64 * k ≡ k * 64 = omega arith in
       ap (λ (a : ℕ). part a 64 (rows rowOf 50)) place
-      ∙ rows-part rowOf 64 50 row-length k (omega (arith, all-pass-few l))
+      ∙ rows-part rowOf 64 50 row-length k (omega (arith, bounds l .all-pass))
       ∙ ap (λ (t : Bool). cond t (runOf k) (part (64 * k) 64 samples)) (lt-ltb k (allPassOf l) u)
 
   column-same : slots ≤ 32 → enough l history input slots ≡ true → (n k : ℕ) → n < slots → k < allPassOf l
@@ -70,7 +62,7 @@ module _ (l : Layout) (history input samples : List Float) (slots : ℕ) (long :
 
   -- a channel above the all-pass ones is no part of a split band
   unsplit-above : (k : ℕ) → allPassOf l ≤ k → unsplitFromOf l ≤ k
-  unsplit-above k u = omega (arith, unsplit-first l)
+  unsplit-above k u = omega (arith, bounds l .passed)
 
   pub sample-same : slots ≤ 32 → enough l history input slots ≡ true → (n k : ℕ) → n < slots
       → sampleIn l (samplesAfter l history input slots samples) input n k ≡ hybrid l (slotIn history input) n k

@@ -11,8 +11,8 @@ use lib.ListN.{length}
 use Rattle.calls.proofs.Rows.{rows-same, synthesised-below}
 use Rattle.complex.specs.declared.Complex.{Complex}
 use Rattle.layout.specs.declared.Layout.{Layout}
-use Rattle.layout.specs.declared.Layout.the-variants.{Bands20, Bands34}
 use Rattle.layout.specs.Numbers.{channelsOf, allPassOf, splitOf, unsplitFromOf}
+use Rattle.layout.proofs.Bounds.{bounds}
 use Rattle.planar.specs.Frame.{qmfAt, qmfRows, qmfBandOf}
 use Rattle.planar.proofs.Rows.{qmf-at, rows-length}
 use Rattle.ps_allpass_channels.specs.Channels as chains
@@ -22,20 +22,17 @@ use Rattle.standard.specs.declared.Matrix.{Matrix}
 use Rattle.standard.specs.Core.{Frame, Core, decorrelated, matrixThen, leftAt, rightAt}
 use Rattle.standard.specs.Hybrid.{synthesised}
 use Rattle.standard.specs.Mixing.{leftOf, rightOf}
-use Rattle.ps_decoder.proofs.Samples.{unsplit-first}
 use Rattle.ps_decoder.proofs.Flat.{Flat}
 use Rattle.ps_decoder.proofs.Chains.{lowAt, chain-side, chains-left, chains-right}
 use Rattle.ps_decoder.proofs.Delays.{highAt, delay-side, delays-left, delays-right}
 
 -- a QMF band is below the plain delays', or one of them
 low-band : (l : Layout) (q : ℕ) → q < qmfBandOf l (allPassOf l) → q + unsplitFromOf l - splitOf l < allPassOf l
-low-band Bands20 q u = omega arith
-low-band Bands34 q u = omega arith
+low-band l q u = let b = bounds l in omega arith
 
 high-band : (l : Layout) (q : ℕ) → qmfBandOf l (allPassOf l) ≤ q → q < 64
     → (allPassOf l ≤ q + unsplitFromOf l - splitOf l) × ((q + unsplitFromOf l - splitOf l < channelsOf l) × (splitOf l ≤ q))
-high-band Bands20 q u h = (omega arith, (omega arith, omega arith))
-high-band Bands34 q u h = (omega arith, (omega arith, omega arith))
+high-band l q u h = let b = bounds l in (omega arith, (omega arith, omega arith))
 
 module _ {f : Frame} {s : Core} {places : List ℕ} {count : ℕ} {samples input gains rows delays long short : List Float}
     (flat : Flat f s places count samples input gains rows delays long short) where
@@ -65,7 +62,7 @@ module _ {f : Frame} {s : Core} {places : List ℕ} {count : ℕ} {samples input
           qmf-at slots (lowAt flat side old) n q u h
           ∙ ap (λ (t : Bool). cond t (synthesised l (chains.sideAt l places count samples gains rows delays side n) q) (qmfAt old n q)) e
           ∙ synthesised-below l (allPassOf l) (chains.sideAt l places count samples gains rows delays side n) (sideOf side n)
-          (λ k v. chain-side flat side n k u v) (unsplit-first l) q (low-band l q low)
+          (λ k v. chain-side flat side n k u v) (bounds l .passed) q (low-band l q low)
       go n q u h false e =
           let high = high-band l q (ltb-false q (qmfBandOf l (allPassOf l)) e) h in
           delay-side flat side n (q + unsplitFromOf l - splitOf l) u (high .0) (high .1 .0)

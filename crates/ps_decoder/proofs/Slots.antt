@@ -16,7 +16,7 @@ use Rattle.lists.proofs.Rows.{rows-same}
 use Rattle.planar.specs.Cells.{cell, planar}
 use Rattle.planar.specs.Frame.{qmfAt}
 use Rattle.planar.specs.Window.{imageOf, historyOf}
-use Rattle.planar.proofs.Cells.{planar-is, planar-at, planar-length}
+use Rattle.planar.proofs.Cells.{planar-same}
 use Rattle.planar.proofs.Window.{window-start}
 use Rattle.ps_hybrid_analysis.specs.Analysis.{slotAt, enough, historyAfter}
 use Rattle.ps_state.specs.State.{historyWith}
@@ -28,9 +28,6 @@ unfolding pastAt
 past-back past x zero i h = absurd (omega arith)
 past-back past x (suc n) zero h = ap x (omega arith)
 past-back past x (suc n) (suc i) h = past-back past x n i (omega arith) ∙ ap x (omega arith)
-
-planar-same : (apart : ℕ) (f g : ℕ → Complex) → ((i : ℕ) → i < apart → f i ≡ g i) → planar apart f ≡ planar apart g
-planar-same apart f g same = planar-is apart (planar apart f) g (planar-length apart f) (λ i u. planar-at apart f i u ∙ same i u)
 
 module _ (history input : List Float) where
   -- the history of QMF band p, newest first

@@ -1,7 +1,7 @@
 -- An accepted frame by its stages is the frame of the definitions: each stage's flat list holds what they say, so the two outputs have their rows, and the
 -- carried numbers hold their state. Assumes nothing.
 use mathlib.Core.Path.{_≡_, refl, sym, ap, _∙_}
-use mathlib.Core.Bool.{Bool, true, false, not, cond, _&&_}
+use mathlib.Core.Bool.{Bool, true, false, not, _&&_}
 use mathlib.Core.List.{List}
 use Prim.Native.Nat.{ℕ, _+_, _*_, _%_, _<_, _≤_, min}
 use native.Mathlib.Omega.{arith}
@@ -9,16 +9,18 @@ use borrow.Author.Tests.{eqb-true, leb-true, le-leb}
 use lib.Dec.{eqb, leb}
 use lib.Ieee.{Float, nan}
 use lib.ListN.{length, getD, replicate, length-replicate}
+use Rattle.limits.specs.Limits as limits
 use Rattle.borders.specs.Borders.{slotsOf, borderOf, bordersOf}
 use Rattle.calls.specs.Call.{Playing, buffersFit, modesOf}
 use Rattle.calls.specs.Cues.{cueAt}
 use Rattle.cue.specs.declared.Header.{Header}
 use Rattle.layout.specs.Numbers.{bandsOf, channelsOf}
-use Rattle.lists.specs.Held.{held}
+use Rattle.lists.specs.Padded.{padded}
 use Rattle.lists.proofs.Maps.{tabulate-length}
+use Rattle.lists.proofs.Alls.{both}
 use Rattle.planar.specs.Frame.{sampleIn, qmfRows}
 use Rattle.ps_allpass_channels.specs.Channels as chains
-use Rattle.ps_data.specs.declared.PsIndexState.{PsIndexState}
+use Rattle.ps_data.specs.declared.PsLines.{PsLines}
 use Rattle.ps_data.specs.declared.PsIndices.{PsIndices}
 use Rattle.ps_decorr.specs.Channels.{detectorsWith}
 use Rattle.ps_decorr_transient.specs.Gains.{enough, detectorsAfter, gainsAfter}
@@ -47,10 +49,6 @@ pub record Fitting (s : PsDecoder) (input left right : List Float) : Type 0 wher
   pub left-long : length left ≡ 128 * slotsOf (s .asked)
   pub right-long : length right ≡ 128 * slotsOf (s .asked)
 
-both : (a b : Bool) → a && b ≡ true → (a ≡ true) × (b ≡ true)
-both true b e = (refl, e)
-both false b e = absurd (omega (arith, ap (λ (t : Bool). cond {A = ℕ} t 1 0) e))
-
 -- as the answer of a call tests it
 pub fitting-of : (s : PsDecoder) (input left right : List Float) → buffersFit (slotsOf (s .asked)) (length input) (length left) (length right) ≡ true → Fitting s input left right
 unfolding buffersFit
@@ -73,19 +71,18 @@ flatFrame s h indices positions input edge =
             slots = slotsOf (s .asked);
             edge = edge;
             empty = not (h .cued);
-            borders = bordersOf (slotsOf (s .asked)) (h .variable) (min (h .envelopes) 4) positions;
+            borders = bordersOf (slotsOf (s .asked)) (h .variable) (min (h .envelopes) limits.envelopes) positions;
             modes = modesOf h;
           };
       cue = cueAt (s .layout) (h .config) indices;
       sample = λ n k. hybrid (s .layout) (slotIn (s .history) input) n k;
     }
 
-abbrev pub flatAfter : PsDecoder → List Float → Frame → PsIndexState → Playing
-flatAfter s input frame kept =
+abbrev pub flatAfter : PsDecoder → List Float → Frame → PsLines → Playing
+flatAfter s input frame lines =
     record {
       slots = slotsOf (s .asked);
-      configured = true;
-      indices = kept;
+      lines = lines;
       past = pastAfter (s .history) input (slotsOf (s .asked));
       core = after frame (coreOf s);
     }
@@ -96,8 +93,8 @@ pub record Stages (s : PsDecoder) (h : Header) (indices : PsIndices) (positions 
       ≡ qmfRows (slotsOf (s .asked)) (λ n q. synthesised (s .layout) (leftAt (flatFrame s h indices positions input edge) (coreOf s) n) q)
   pub right-is : rightOf s h indices positions input left right
       ≡ qmfRows (slotsOf (s .asked)) (λ n q. synthesised (s .layout) (rightAt (flatFrame s h indices positions input edge) (coreOf s) n) q)
-  pub state-is : (kept : PsIndexState)
-      → sounded s h indices positions input left right kept ≡ stored s (flatAfter s input (flatFrame s h indices positions input edge) kept)
+  pub state-is : (lines : PsLines)
+      → sounded s h indices positions input left right lines ≡ stored s (flatAfter s input (flatFrame s h indices positions input edge) lines)
 
 twice-not : (t : Bool) → t ≡ not (not t)
 twice-not true = refl
@@ -131,8 +128,8 @@ module _ (s : PsDecoder) (h : Header) (indices : PsIndices) (positions : List �
   all-slots : min slots 32 ≡ slots
   all-slots = omega arith
 
-  borders-long : length (frame .head .borders) ≡ min (h .envelopes) 4
-  borders-long = tabulate-length (borderOf slots (h .variable) (min (h .envelopes) 4) positions) (min (h .envelopes) 4)
+  borders-long : length (frame .head .borders) ≡ min (h .envelopes) limits.envelopes
+  borders-long = tabulate-length (borderOf slots (h .variable) (min (h .envelopes) limits.envelopes) positions) (min (h .envelopes) limits.envelopes)
 
   -- the input has a row for each slot
   rows-there : 128 * slots ≤ length input
@@ -151,22 +148,22 @@ module _ (s : PsDecoder) (h : Header) (indices : PsIndices) (positions : List �
       ap (λ (m : ℕ). getD (gainsAfter (s .layout) (s .decorr .detectors) samples input m (replicate 1088 zero)) (32 * b + n) nan) all-slots
       ∙ gain-same (s .layout) (s .decorr .detectors) samples input slots (frame .sample) sample-is ample (replicate 1088 zero) few b n u w
 
-  matrix-is : (b n : ℕ) → b < bandsOf (s .layout) → matrixIn (slotted.bordersOf (held 4 0 (frame .head .borders)) (h .envelopes)) (slotted.borderMatrix rows b) n ≡ matrixThen frame core b n
+  matrix-is : (b n : ℕ) → b < bandsOf (s .layout) → matrixIn (slotted.bordersOf (padded limits.envelopes 0 (frame .head .borders)) (h .envelopes)) (slotted.borderMatrix rows b) n ≡ matrixThen frame core b n
   unfolding rowsOf matrixThen keptThen borders.keptThen coreOf
   matrix-is b n u =
-      matrix-then (s .layout) (modesOf h) (h .config) indices (s .stereo) (replicate 1360 zero) (length-replicate 1360 zero) (frame .head .borders) (h .envelopes) b n borders-long u
+      matrix-then (s .layout) (modesOf h) (h .config) indices (s .stereo) (replicate limits.matrices zero) (length-replicate limits.matrices zero) (frame .head .borders) (h .envelopes) b n borders-long u
 
   -- each stage's list holds what the definitions say
-  pub flat : Flat frame core (held 4 0 (frame .head .borders)) (h .envelopes) samples input gains rows (s .decorr .delays) (s .decorr .long) (s .decorr .short)
+  pub flat : Flat frame core (padded limits.envelopes 0 (frame .head .borders)) (h .envelopes) samples input gains rows (s .decorr .delays) (s .decorr .long) (s .decorr .short)
   unfolding coreOf
   flat = record { sample = sample-is; gain = gain-is; matrix = matrix-is; channel = λ k. refl }
 
   -- both sides as the all-pass channels leave them
   abbrev lowLeft : List Float
-  lowLeft = chains.leftAfter (s .layout) (held 4 0 (frame .head .borders)) (h .envelopes) samples gains rows (s .decorr .delays) slots left right
+  lowLeft = chains.leftAfter (s .layout) (padded limits.envelopes 0 (frame .head .borders)) (h .envelopes) samples gains rows (s .decorr .delays) slots left right
 
   abbrev lowRight : List Float
-  lowRight = chains.rightAfter (s .layout) (held 4 0 (frame .head .borders)) (h .envelopes) samples gains rows (s .decorr .delays) slots left right
+  lowRight = chains.rightAfter (s .layout) (padded limits.envelopes 0 (frame .head .borders)) (h .envelopes) samples gains rows (s .decorr .delays) slots left right
 
   low-left : length lowLeft ≡ 128 * slots
   low-left = chains-left-long flat left right few (fitting .left-long) (fitting .right-long) rows-there
@@ -180,21 +177,20 @@ module _ (s : PsDecoder) (h : Header) (indices : PsIndices) (positions : List �
       ap (detectorsAfter (s .layout) (s .decorr .detectors) samples input) all-slots
       ∙ detectors-then (s .layout) (s .decorr .detectors) samples input slots (frame .sample) sample-is ample
 
-  stereo-is : borders.stereoAfter (s .layout) (modesOf h) (h .config) indices (s .stereo) (min (h .envelopes) 4)
+  stereo-is : borders.stereoAfter (s .layout) (modesOf h) (h .config) indices (s .stereo) (min (h .envelopes) limits.envelopes)
       ≡ stereoWith (s .layout) (λ b. keptThen frame core b (length (frame .head .borders))) (s .stereo)
   unfolding borders.stereoAfter borders.keptThen keptThen coreOf
   stereo-is = ap (λ (count : ℕ). stereoWith (s .layout) (λ b. keptThen frame core b count) (s .stereo)) (sym borders-long)
 
-  state-same : (kept : PsIndexState) → sounded s h indices positions input left right kept ≡ stored s (flatAfter s input frame kept)
+  state-same : (lines : PsLines) → sounded s h indices positions input left right lines ≡ stored s (flatAfter s input frame lines)
   unfolding sounded stored after coreOf
-  state-same kept =
+  state-same lines =
       λ i.
       record {
         asked = s .asked;
         layout = s .layout;
-        configured = true;
         cued = twice-not (h .cued) i;
-        indices = kept;
+        lines = lines;
         history = history-same (s .history) input (s .layout) slots many (fitting .room) i;
         decorr =
             record {

@@ -1,7 +1,6 @@
 -- An accepted frame by its stages, each over flat lists: analysis, ducking factors, coefficients at the borders, all-pass channels, plain delays.
 -- Assumes nothing.
 use Prim.Native.Nat.{ℕ, min}
-use mathlib.Core.Bool.{true}
 use mathlib.Core.List.{List}
 use mathlib.Core.Path.{_≡_}
 use lib.Ieee.{Float}
@@ -9,9 +8,10 @@ use lib.ListN.{replicate}
 use Rattle.borders.specs.Borders.{slotsOf, bordersOf}
 use Rattle.cue.specs.declared.Header.{Header}
 use Rattle.layout.specs.declared.Layout.{Layout}
-use Rattle.lists.specs.Held.{held}
+use Rattle.limits.specs.Limits as limits
+use Rattle.lists.specs.Padded.{padded}
 use Rattle.calls.specs.Call.{modesOf}
-use Rattle.ps_data.specs.declared.PsIndexState.{PsIndexState}
+use Rattle.ps_data.specs.declared.PsLines.{PsLines}
 use Rattle.ps_data.specs.declared.PsIndices.{PsIndices}
 use Rattle.ps_data.specs.declared.Resolved.{Resolved}
 use Rattle.ps_allpass_channels.specs.Channels as chains
@@ -28,10 +28,10 @@ module _ (s : PsDecoder) (h : Header) (indices : PsIndices) (positions : List �
   slots = slotsOf (s .asked)
 
   abbrev count : ℕ
-  count = min (h .envelopes) 4
+  count = min (h .envelopes) limits.envelopes
 
   abbrev places : List ℕ
-  places = held 4 0 (bordersOf slots (h .variable) count positions)
+  places = padded limits.envelopes 0 (bordersOf slots (h .variable) count positions)
 
   unfoldable pub samplesOf : List Float
   samplesOf = analysis.samplesAfter (s .layout) (s .history) input slots (replicate 3200 zero)
@@ -40,7 +40,7 @@ module _ (s : PsDecoder) (h : Header) (indices : PsIndices) (positions : List �
   gainsOf = gains.gainsAfter (s .layout) (s .decorr .detectors) samplesOf input (min slots 32) (replicate 1088 zero)
 
   unfoldable pub rowsOf : List Float
-  rowsOf = borders.rowsAfter (s .layout) (modesOf h) (h .config) indices (s .stereo) count (replicate 1360 zero)
+  rowsOf = borders.rowsAfter (s .layout) (modesOf h) (h .config) indices (s .stereo) count (replicate limits.matrices zero)
 
   -- a result of the all-pass channels
   abbrev throughChains : (Layout → List ℕ → ℕ → List Float → List Float → List Float → List Float → ℕ → List Float → List Float → List Float) → List Float
@@ -57,14 +57,13 @@ module _ (s : PsDecoder) (h : Header) (indices : PsIndices) (positions : List �
   unfoldable pub rightOf : List Float
   rightOf = throughDelays delays.rightAfter
 
-  unfoldable pub sounded : PsIndexState → PsDecoder
-  sounded kept =
+  unfoldable pub sounded : PsLines → PsDecoder
+  sounded lines =
       record {
         asked = s .asked;
         layout = s .layout;
-        configured = true;
         cued = h .cued;
-        indices = kept;
+        lines = lines;
         history = analysis.historyAfter (s .layout) (s .history) input slots;
         decorr =
             record {
@@ -78,6 +77,6 @@ module _ (s : PsDecoder) (h : Header) (indices : PsIndices) (positions : List �
 
 -- an accepted frame from a state that is ready: the state after it, and both sides
 pub record Sounded (s : PsDecoder) (h : Header) (r : Resolved) (input left right : List Float) (after : PsDecoder) (new-left new-right : List Float) : Type 0 where
-  pub state : after ≡ sounded s h (r .indices) (r .positions) input left right (r .state)
+  pub state : after ≡ sounded s h (r .indices) (r .positions) input left right (r .lines)
   pub left-rows : new-left ≡ leftOf s h (r .indices) (r .positions) input left right
   pub right-rows : new-right ≡ rightOf s h (r .indices) (r .positions) input left right

@@ -4,13 +4,15 @@ mod sound;
 use answer::Answer;
 use cue::Header;
 use cue::Line;
-use layout::Layout;
 use ps_data::Resolved;
-use ps_decorr::PsDecorr;
 use ps_state::PsCarried;
 use ps_state::PsDecoder;
 ghost use mathlib.Core.Path.{_≡_};
-ghost use Rattle.calls.specs.Call.{layoutIn, played};
+ghost use Prim.Native.Nat.{_+_, _*_, _≤_};
+ghost use lib.ListN.{length};
+ghost use Rattle.borders.specs.Borders.{slotsOf};
+ghost use Rattle.calls.specs.Call.{played};
+ghost use Rattle.ps_data.specs.Indices.{layoutIn};
 ghost use Rattle.ps_state.specs.Ready.{readied};
 ghost use Rattle.ps_state.specs.Shape.{Lent};
 ghost use Rattle.ps_state.specs.State.{decoderOf, playingOf};
@@ -29,19 +31,7 @@ pub struct Answered {
     pub carried: PsCarried,
 }
 
-// An empty line leaves the configuration in force, and so the layout.
-fn layout_in(old: Layout, header: Header) -> Layout
-    ensures { λ r. ⌜ r ≡ layoutIn old header ⌝ }
-{
-    let config = header.config;
-    if header.cued {
-        ps_data::layout_of(config)
-    } else {
-        old
-    }
-}
-
-// An accepted frame.
+// An accepted frame, whose input is long enough.
 fn play(
     carried: PsCarried,
     history: &mut [f64; 60],
@@ -56,6 +46,7 @@ fn play(
     left: &mut [f64],
     right: &mut [f64],
 ) -> PsCarried
+    requires { ⌜ 128 * (slotsOf (carried .asked) + 6) ≤ length (now input) ⌝ }
     ensures { λ r. ⌜ Sounded (readied (layoutIn (carried .layout) header) edge
         (decoderOf carried (now (history .entry)) (now (delays .entry)) (now (long .entry)) (now (short .entry)) (now (detectors .entry))))
         header resolved (now (input .entry)) (now (left .entry)) (now (right .entry))
@@ -63,7 +54,7 @@ fn play(
         (now (left .exit)) (now (right .exit)) ⌝ }
 {
     let old = carried.layout;
-    let layout = layout_in(old, header);
+    let layout = ps_data::layout_in(old, header);
     let ready = ps_state::ready(
         carried,
         layout,
@@ -76,7 +67,7 @@ fn play(
     );
     let indices = resolved.indices;
     let positions = resolved.positions;
-    let kept = resolved.state;
+    let lines = resolved.lines;
     sound::sound(
         ready,
         history,
@@ -87,7 +78,7 @@ fn play(
         header,
         indices,
         positions,
-        kept,
+        lines,
         input,
         left,
         right,
@@ -126,26 +117,26 @@ pub fn lent_frame(
         (callOf (now (line .entry)) (now (input .entry)) edge (now (left .entry)) (now (right .entry))) .right ⌝ }
 {
     sized(history, delays, long, short, detectors);
-    let kept = carried.indices;
-    let resolved = ps_data::resolve(kept, line);
-    let said = resolved.line;
-    let Line::Read(header) = said else {
+    let lines = carried.lines;
+    let resolved = ps_data::resolve(lines, line);
+    let read = resolved.line;
+    let Line::Read(header) = read else {
         return Answered {
-            answer: said.answer(),
+            answer: read.answer(),
             carried: carried,
         };
     };
-    let heard = ps_data::read_answer(header, carried.configured);
-    let Answer::Done = heard else {
+    let of_line = ps_data::read_answer(header, lines.configured);
+    let Answer::Done = of_line else {
         return Answered {
-            answer: heard,
+            answer: of_line,
             carried: carried,
         };
     };
-    let lent = ps_input::input_answer(carried.asked, input, left.len(), right.len());
-    let Answer::Done = lent else {
+    let of_input = ps_input::input_answer(carried.asked, input, left.len(), right.len());
+    let Answer::Done = of_input else {
         return Answered {
-            answer: lent,
+            answer: of_input,
             carried: carried,
         };
     };
@@ -182,17 +173,7 @@ pub fn frame(
     ensures left { λ _. ⌜ now (left .exit) ≡ played (playingOf state) (callOf (now (line .entry)) (now (input .entry)) edge (now (left .entry)) (now (right .entry))) .left ⌝ }
     ensures right { λ _. ⌜ now (right .exit) ≡ played (playingOf state) (callOf (now (line .entry)) (now (input .entry)) edge (now (left .entry)) (now (right .entry))) .right ⌝ }
 {
-    let old = state.layout;
-    let rows = state.indices;
-    let coefficients = state.stereo;
-    let carried = PsCarried {
-        asked: state.asked,
-        layout: old,
-        configured: state.configured,
-        cued: state.cued,
-        indices: rows,
-        stereo: coefficients,
-    };
+    let carried = ps_state::apart(state);
     let mut history = state.history;
     let decorr = state.decorr;
     let mut delays = decorr.delays;
@@ -214,25 +195,8 @@ pub fn frame(
     );
     let answer = answered.answer;
     let after = answered.carried;
-    let layout = after.layout;
-    let indices = after.indices;
-    let stereo = after.stereo;
     Played {
         answer: answer,
-        state: PsDecoder {
-            asked: after.asked,
-            layout: layout,
-            configured: after.configured,
-            cued: after.cued,
-            indices: indices,
-            history: history,
-            decorr: PsDecorr {
-                delays: delays,
-                long: long,
-                short: short,
-                detectors: detectors,
-            },
-            stereo: stereo,
-        },
+        state: ps_state::together(after, history, delays, long, short, detectors),
     }
 }

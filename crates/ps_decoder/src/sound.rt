@@ -1,29 +1,17 @@
 // The sound of an accepted frame, stage by stage, from a state that is ready for it.
+use answer::Answer;
 use cue::Header;
-use ps_data::PsIndexState;
 use ps_data::PsIndices;
+use ps_data::PsLines;
 use ps_state::PsCarried;
-use standard::Modes;
 ghost use mathlib.Core.Path.{_≡_};
-ghost use Rattle.calls.specs.Call.{modesOf};
+ghost use Prim.Native.Nat.{_+_, _*_, _≤_};
+ghost use lib.ListN.{length};
+ghost use Rattle.borders.specs.Borders.{slotsOf};
 ghost use Rattle.ps_state.specs.State.{decoderOf};
 ghost use Rattle.ps_decoder.specs.Sound.{leftOf, rightOf, sounded};
 
-// How the coefficients of a frame are made.
-fn modes(header: Header) -> Modes
-    ensures { λ r. ⌜ r ≡ modesOf header ⌝ }
-{
-    let config = header.config;
-    let iid = config.iid;
-    let icc = config.icc;
-    Modes {
-        fine: 3 <= iid.mode,
-        rb: 3 <= icc.mode,
-        phase: header.phase,
-    }
-}
-
-// From a state that is ready, whose arrays are lent.
+// From a state that is ready, whose arrays are lent, and an input that is long enough.
 pub fn sound(
     carried: PsCarried,
     history: &mut [f64; 60],
@@ -33,15 +21,16 @@ pub fn sound(
     detectors: &mut [f64; 102],
     header: Header,
     indices: PsIndices,
-    positions: [u8; 4],
-    kept: PsIndexState,
+    positions: [u8; limits::ENVELOPES],
+    lines: PsLines,
     input: &[f64],
     left: &mut [f64],
     right: &mut [f64],
 ) -> PsCarried
+    requires { ⌜ 128 * (slotsOf (carried .asked) + 6) ≤ length (now input) ⌝ }
     ensures carried { λ r. ⌜ decoderOf r (now (history .exit)) (now (delays .exit)) (now (long .exit)) (now (short .exit)) (now (detectors .exit))
         ≡ sounded (decoderOf carried (now (history .entry)) (now (delays .entry)) (now (long .entry)) (now (short .entry)) (now (detectors .entry)))
-        header indices positions (now (input .entry)) (now (left .entry)) (now (right .entry)) kept ⌝ }
+        header indices positions (now (input .entry)) (now (left .entry)) (now (right .entry)) lines ⌝ }
     ensures left { λ _. ⌜ now (left .exit)
         ≡ leftOf (decoderOf carried (now (history .entry)) (now (delays .entry)) (now (long .entry)) (now (short .entry)) (now (detectors .entry)))
         header indices positions (now (input .entry)) (now (left .entry)) (now (right .entry)) ⌝ }
@@ -53,25 +42,19 @@ pub fn sound(
     let envelopes = header.envelopes as usize;
     let slots = borders::slots(carried.asked);
     let mut samples = [0.0; 3200];
-    ps_hybrid_analysis::analyse(layout, carried.asked, history, input, &mut samples);
+    let analysed = ps_hybrid_analysis::analyse(layout, carried.asked, history, input, &mut samples);
+    let Answer::Done = analysed else {
+        return carried;
+    };
     let mut gains = [0.0; 1088];
     ps_decorr_transient::duck(layout, detectors, &samples, input, slots, &mut gains);
     let stereo = carried.stereo;
-    let mut rows = [0.0; 1360];
-    let config = header.config;
-    let mixed = ps_stereo_borders::coefficients(
-        layout,
-        modes(header),
-        config,
-        indices,
-        envelopes,
-        stereo,
-        &mut rows,
-    );
-    let places = borders::borders(carried.asked, header.variable, envelopes, positions);
+    let mut rows = [0.0; limits::MATRICES];
+    let mixed = ps_stereo_borders::coefficients(layout, header, indices, stereo, &mut rows);
+    let borders = borders::borders(carried.asked, header.variable, envelopes, positions);
     ps_allpass_channels::allpass_channels(
         layout,
-        places,
+        borders,
         envelopes,
         &samples,
         &gains,
@@ -83,7 +66,7 @@ pub fn sound(
     );
     ps_delay_channels::delay_channels(
         layout,
-        places,
+        borders,
         envelopes,
         input,
         &gains,
@@ -97,9 +80,8 @@ pub fn sound(
     PsCarried {
         asked: carried.asked,
         layout: layout,
-        configured: true,
         cued: header.cued,
-        indices: kept,
+        lines: lines,
         stereo: mixed,
     }
 }

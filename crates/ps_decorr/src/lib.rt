@@ -26,19 +26,6 @@ pub fn fresh() -> PsDecorr
     }
 }
 
-fn least(a: usize, b: usize) -> usize
-    ensures { λ r. ⌜ r ≡ min a b ⌝ }
-{
-    if a < b { a } else { b }
-}
-
-// What a has above b, or 0.
-fn above(a: usize, b: usize) -> usize
-    ensures { λ r. ⌜ r ≡ a - b ⌝ }
-{
-    if b < a { a - b } else { 0 }
-}
-
 fn clear_from(xs: &mut [f64], place: usize)
     requires { ⌜ place ≤ length (now xs) ⌝ }
     ensures { λ _. ⌜ now (xs .exit) ≡ clearedFrom place (now (xs .entry)) ⌝ }
@@ -75,19 +62,19 @@ fn clear_short(short: &mut [f64; 58], place: usize)
 fn delays_place(k: usize) -> usize
     ensures { λ r. ⌜ r ≡ 28 * min k 50 ⌝ }
 {
-    28 * least(k, 50)
+    28 * limits::least(k, 50)
 }
 
 fn long_place(layout: Layout, k: usize) -> usize
     ensures { λ r. ⌜ r ≡ 28 * min (k - allPassOf layout) 12 ⌝ }
 {
-    28 * least(above(k, layout.all_pass()), 12)
+    28 * limits::least(limits::above(k, layout.all_pass()), 12)
 }
 
 fn short_place(layout: Layout, k: usize) -> usize
     ensures { λ r. ⌜ r ≡ 2 * min (k - shortDelayOf layout) 29 ⌝ }
 {
-    2 * least(above(k, layout.short_delay()), 29)
+    2 * limits::least(limits::above(k, layout.short_delay()), 29)
 }
 
 // A frame's own reset: the delays of the channels from k on.

@@ -1,20 +1,20 @@
 -- A frame slot by slot: at its start the windows hold the histories, each slot takes them on by one, and at its end they leave the channel's memory.
 -- Assumes nothing.
-use mathlib.Core.Path.{_≡_, ap, ap₂, _∙_}
+use mathlib.Core.Path.{_≡_, ap₂, _∙_}
 use mathlib.Core.List.{List}
 use Prim.Native.Nat.{ℕ, _+_, _<_}
-use native.Mathlib.Numerals.{add-one}
 use lib.Ieee.{Float}
 use lib.ListN.{length}
 use Rattle.complex.specs.declared.Complex.{Complex}
 use Rattle.planar.specs.Cells.{cell, stored}
 use Rattle.planar.proofs.Window.{window-start}
 use Rattle.standard.specs.declared.Chain.{Chain}
-use Rattle.standard.specs.Channel.{Channel, channelAfter, channelAt, thirdOutput}
+use Rattle.standard.specs.Channel.{Channel, channelAt, thirdOutput}
+use Rattle.standard.proofs.Channels.{channel-next}
 use Rattle.ps_decorr_allpass.specs.Memory.{memoryOf}
 use Rattle.ps_decorr_allpass.specs.Windows.{windowed, tails, Windows, Stepped, Ran}
 use Rattle.ps_decorr_allpass.proofs.Copies.{tail-image}
-use Rattle.ps_decorr_allpass.proofs.Outputs.{overwritten-none, overwritten-more}
+use Rattle.planar.proofs.Overwritten.{overwritten-none, overwritten-more}
 
 pub ran-none : (chain : Chain) (x : ℕ → Complex) (past first second third out : List Float) → length out ≡ 64
     → Ran chain (windowed past first second third) x 0 past first second third out out
@@ -25,11 +25,6 @@ ran-none chain x past first second third out long =
           record { input = window-start 2 34 past; link1 = window-start 3 35 first; link2 = window-start 4 36 second; link3 = window-start 5 37 third };
       given = overwritten-none 32 (λ m. thirdOutput chain (channelAt chain (windowed past first second third) x m)) out long;
     }
-
-channel-next : (chain : Chain) (c : Channel) (x : ℕ → Complex) (n : ℕ)
-    → channelAt chain c x (n + 1) ≡ channelAfter chain (channelAt chain c x n) (x n)
-unfolding channelAt
-channel-next chain c x n = ap (channelAt chain c x) (add-one n)
 
 module _ {chain : Chain} {c : Channel} {x : ℕ → Complex} {n : ℕ} {past₀ first₀ second₀ third₀ out₀ out : List Float}
     (r : Ran chain c x n past₀ first₀ second₀ third₀ out₀ out) where

@@ -1,5 +1,3 @@
 pub mod Copies
 pub mod Frames
-pub mod Literals
-pub mod Outputs
 pub mod Steps

@@ -243,12 +243,6 @@ fn lend(chain: Chain, memory: &mut [f64], samples: &[f64], k: usize, slots: usiz
     );
 }
 
-fn least(a: usize, b: usize) -> usize
-    ensures { λ r. ⌜ r ≡ min a b ⌝ }
-{
-    if a < b { a } else { b }
-}
-
 // A frame of channel k, of at most 50 channels and 32 slots.
 pub fn all_pass(
     chain: Chain,
@@ -262,7 +256,7 @@ pub fn all_pass(
     ensures out { λ _. ⌜ now (out .exit) ≡ outputAfter chain (now (memory .entry)) (now (samples .entry)) k (min slots 32) (now (out .entry)) ⌝ }
 {
     if k < 50 {
-        let count = least(slots, 32);
-        lend(chain, memory, samples, k, count, out);
+        let slots = limits::least(slots, 32);
+        lend(chain, memory, samples, k, slots, out);
     }
 }

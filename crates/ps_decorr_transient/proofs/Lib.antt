@@ -1,4 +1,3 @@
-pub mod Literals
 pub mod Rows
 pub mod Slots
 pub mod Detectors

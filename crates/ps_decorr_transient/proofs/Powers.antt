@@ -15,6 +15,7 @@ use Rattle.complex.specs.Operations.{squaredMagnitude}
 use Rattle.layout.specs.declared.Layout.{Layout}
 use Rattle.layout.specs.declared.Layout.the-variants.{Bands20, Bands34}
 use Rattle.layout.specs.Numbers.{bandsOf, channelsOf, allPassOf, splitOf, unsplitFromOf}
+use Rattle.layout.proofs.Bounds.{bounds}
 use Rattle.lists.proofs.Parts.{part-at}
 use Rattle.planar.specs.Frame.{sampleAt, qmfBandOf, sampleIn}
 use Rattle.planar.proofs.Cells.{by-parts}
@@ -95,12 +96,8 @@ module _ (l : Layout) (samples input : List Float) (slots : ℕ) (few : slots �
       (r .rows l (sampleIn l samples input) start e (λ k n u v w. below k n v w) (rowed-cleared clear _ (λ b n. refl)))
 
 -- ---- the layouts' numbers
-pub bands-fit : (l : Layout) → bandsOf l ≤ 34
-bands-fit Bands20 = omega arith
-bands-fit Bands34 = omega arith
-
 pub band-fits : (l : Layout) (map : List ℕ) (k : ℕ) → map ≡ parameterMap l → getD map k 0 < 34
-band-fits l map k e = rw e (omega (arith, band-small l k, bands-fit l))
+band-fits l map k e = rw e (omega (arith, band-small l k, bounds l .bands))
 
 pub map-banded : (l : Layout) (map : List ℕ) → map ≡ parameterMap l → Banded map
 map-banded l map e = record { small = λ k. band-fits l map k e }

@@ -2,16 +2,15 @@
 use mathlib.Core.Path.{_≡_, refl, _∙_}
 use mathlib.Core.Bool.{cond}
 use mathlib.Core.List.{List}
-use Prim.Native.Nat.{ℕ, zero, suc, _+_, _*_, _<_}
+use Prim.Native.Nat.{ℕ, _+_, _*_, _<_}
 use native.Mathlib.Numerals.{add-one}
-use native.Mathlib.Nat.{le-refl}
-use native.Mathlib.Omega.{arith}
 use lib.Ieee.{Float, nan, binary64, lt, add, sub, mul}
 use lib.ListN.{getD}
 use Rattle.decimals.specs.declared.DetectorFactors.{DetectorFactors}
 use Rattle.decimals.specs.Decorrelation.{detectorFactors}
 use Rattle.standard.specs.Numbers.{one, _⊕_, _⊖_, _⊗_, _⊘_}
 use Rattle.standard.specs.Detector.{Detector, peakAfter, smoothed, detectorAfter, detectorAt, ducking}
+use Rattle.standard.proofs.Frames.{detector-same}
 use Rattle.ps_decorr_transient.specs.Gains.{detectorOf}
 use Rattle.ps_decorr_transient.specs.Rows.{stateOf}
 
@@ -45,14 +44,9 @@ unfolding stateOf detectorAt
 state-more memory gains n b r p e = e ∙ rw (r, p, add-one n)
 
 -- ---- powers that agree
-same-to : (d : Detector) (p q : ℕ → Float) (n : ℕ) → ((m : ℕ) → m < n → p m ≡ q m) → detectorAt d p n ≡ detectorAt d q n
-unfolding detectorAt
-same-to d p q zero h = refl
-same-to d p q (suc n) h = rw (same-to d p q n (λ m u. h m (omega arith)), h n (le-refl (suc n)))
-
 pub state-is : (memory gains : List Float) (n b : ℕ) (d : Detector) (power : ℕ → Float) → detectorOf memory b ≡ d → ((m : ℕ) → m < n → getD gains (32 * b + m) nan ≡ power m) → stateOf memory gains n b ≡ detectorAt d power n
 unfolding stateOf
-state-is memory gains n b d power e h = rw e (same-to d (λ m. getD gains (32 * b + m) nan) power n h)
+state-is memory gains n b d power e h = rw e (detector-same d (λ m. getD gains (32 * b + m) nan) power n h)
 
 pub state-same : (m g memory gains : List Float) (n b : ℕ) → detectorOf m b ≡ detectorOf memory b → ((i : ℕ) → i < n → getD g (32 * b + i) nan ≡ getD gains (32 * b + i) nan) → stateOf m g n b ≡ stateOf memory gains n b
 unfolding stateOf

@@ -12,12 +12,6 @@ ghost use Rattle.standard.specs.Detector.{detectorAfter, ducking};
 ghost use Rattle.ps_decorr_transient.specs.Gains.{detectorOf, powerAt, detectorsAfter, gainsAfter};
 ghost use Rattle.ps_decorr_transient.specs.Rows.{Row, Rowed, Cleared, Banded, Summed, Ducked, added, inRow, inColumn, detectorIn, kept};
 
-fn least(a: usize, b: usize) -> usize
-    ensures { λ r. ⌜ r ≡ min a b ⌝ }
-{
-    if a < b { a } else { b }
-}
-
 fn larger(a: f64, b: f64) -> f64
     ensures { λ r. ⌜ r ≡ cond (lt a b) b a ⌝ }
 {
@@ -240,7 +234,7 @@ pub fn duck(
     ensures gains { λ _. ⌜ now (gains .exit) ≡ gainsAfter layout (now (detectors .entry)) (now (samples .entry)) (now (input .entry)) (min slots 32) (now (gains .entry)) ⌝ }
 {
     let bands = layout.bands();
-    let count = least(slots, 32);
+    let count = limits::least(slots, 32);
     if input.len() < 128 * count {
         return;
     }

@@ -16,10 +16,10 @@ use Rattle.lists.specs.Part.{part}
 use Rattle.lists.specs.Rows as lists
 use Rattle.lists.proofs.Parts.{part-at}
 use Rattle.lists.proofs.Rows.{rows-same}
-use Rattle.planar.specs.Cells.{cell, planar}
+use Rattle.planar.specs.Cells.{cell}
 use Rattle.planar.specs.Frame.{qmfBandOf}
 use Rattle.planar.specs.Window.{imageOf}
-use Rattle.planar.proofs.Cells.{by-parts, planar-is, planar-at, planar-length}
+use Rattle.planar.proofs.Cells.{by-parts, planar-same}
 use Rattle.standard.specs.declared.Matrix.{Matrix}
 use Rattle.standard.specs.Channel.{back}
 use Rattle.standard.specs.Mixing.{leftOf, rightOf}
@@ -27,11 +27,9 @@ use Rattle.ps_delay_channels.specs.Channels.{pastThen, decorrelated, mat
 use Rattle.ps_delay_channels.specs.Rows.{BySlot, Banded, earlier, runsOf}
 use Rattle.ps_delay_channels.specs.Spans.{Framed, Spanned, Kept, Done, channelOf, sideIn, delayedIn, sideFrom}
 use Rattle.ps_delay_channels.proofs.Sofar.{banded-alike, banded-all}
-use Rattle.ps_delay_channels.proofs.Numbers.{placed, none-conjugated}
+use Rattle.layout.proofs.Bounds.{bounds}
+use Rattle.ps_delay_channels.proofs.Numbers.{none-conjugated}
 use Rattle.ps_delay_channels.proofs.Past.{earlier-back}
-
-planar-same : (apart : ℕ) (f g : ℕ → Complex) → ((i : ℕ) → i < apart → f i ≡ g i) → planar apart f ≡ planar apart g
-planar-same apart f g same = planar-is apart (planar apart f) g (planar-length apart f) (λ i u. planar-at apart f i u ∙ same i u)
 
 module _ (l : Layout) (borders : List ℕ) (count : ℕ) (input gains rows long short before : List Float) (by-slot : BySlot long before) where
   -- ---- delayed samples
@@ -46,7 +44,7 @@ module _ (l : Layout) (borders : List ℕ) (count : ℕ) (input gains rows long 
     where
       held : (m : ℕ) → m < 14 → cell 1 before (24 * m + 2 * (qmfBandOf l k - qmfBandOf l (allPassOf l))) ≡ cell 14 (part (28 * (k - allPassOf l)) 28 long) m
       held m h =
-          let p = placed l in
+          let p = bounds l in
           let column : qmfBandOf l k - qmfBandOf l (allPassOf l) ≡ k - allPassOf l = omega arith in
           rw column (by-slot .at m (k - allPassOf l) h (omega arith))
 
@@ -60,7 +58,7 @@ module _ (l : Layout) (borders : List ℕ) (count : ℕ) (input gains rows long 
     where
       held : (m : ℕ) → m < 1 → cell 1 short (58 * m + 2 * (qmfBandOf l k - qmfBandOf l (shortDelayOf l))) ≡ cell 1 (part (2 * (k - shortDelayOf l)) 2 short) m
       held m h =
-          let p = placed l in
+          let p = bounds l in
           let real : 58 * m + 2 * (qmfBandOf l k - qmfBandOf l (shortDelayOf l)) ≡ 2 * (k - shortDelayOf l) + m = omega arith in
           let imaginary : 58 * m + 2 * (qmfBandOf l k - qmfBandOf l (shortDelayOf l)) + 1 ≡ 2 * (k - shortDelayOf l) + (m + 1) = omega arith in
           by-parts
@@ -71,10 +69,10 @@ module _ (l : Layout) (borders : List ℕ) (count : ℕ) (input gains rows long 
 
   module _ (q : ℕ) (above : qmfBandOf l (allPassOf l) ≤ q) where
     there : allPassOf l ≤ channelOf l q
-    there = let p = placed l in omega arith
+    there = let p = bounds l in omega arith
 
     same-band : qmfBandOf l (channelOf l q) ≡ q
-    same-band = let p = placed l in omega arith
+    same-band = let p = bounds l in omega arith
 
     delayed-back : (n : ℕ) → delayedIn l before short input n q
         ≡ back (cond (ltb (channelOf l q) (shortDelayOf l)) 13 0) (pastThen l borders count input gains rows long short (channelOf l q) n)
@@ -96,7 +94,7 @@ module _ (l : Layout) (borders : List ℕ) (count : ℕ) (input gains rows long 
       → new ≡ sideRows l borders count input gains rows long short side slots old
   unfolding sideRows
   side-rows side slots old new size b =
-      let p = placed l in
+      let p = bounds l in
       banded-all
       (banded-alike b (λ n q. sideAt l borders count input gains rows long short side n (channelOf l q)) (λ n q h u v. side-standard q u side n))
       (omega arith) size
@@ -111,7 +109,7 @@ module _ (l : Layout) (borders : List ℕ) (count : ℕ) (input gains rows long 
       (λ j h.
       planar-same 14 _ _
       (λ i u.
-      let p = placed l in
+      let p = bounds l in
       let band : qmfBandOf l (allPassOf l) + j ≡ qmfBandOf l (allPassOf l + j) = omega arith in
       rw band (long-back (allPassOf l + j) slots i (omega arith) (omega arith) u)))
 
@@ -123,7 +121,7 @@ module _ (l : Layout) (borders : List ℕ) (count : ℕ) (input gains rows long 
       (λ j h.
       planar-same 1 _ _
       (λ i u.
-      let p = placed l in
+      let p = bounds l in
       let band : qmfBandOf l (shortDelayOf l) + j ≡ qmfBandOf l (shortDelayOf l + j) = omega arith in
       rw band (short-back (shortDelayOf l + j) slots i (omega arith) u)))
 

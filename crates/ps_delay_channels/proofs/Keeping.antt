@@ -17,7 +17,7 @@ use Rattle.lists.proofs.Rows.{rows-same, rows-whole}
 use Rattle.planar.specs.Cells.{cell, stored, planar, overwritten}
 use Rattle.planar.proofs.Pairs.{pair-same, pair-other}
 use Rattle.planar.proofs.Cells.{by-parts, stored-length, planar-is, planar-at, planar-length}
-use Rattle.ps_decorr_allpass.proofs.Outputs.{overwritten-more}
+use Rattle.planar.proofs.Overwritten.{overwritten-more}
 use Rattle.ps_delay_channels.specs.Rows.{BySlot, Laid, earlier, runsOf}
 use Rattle.ps_delay_channels.proofs.Bands.{earlier-kept, earlier-came, lent-pair}
 

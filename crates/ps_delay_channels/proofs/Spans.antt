@@ -25,7 +25,7 @@ use Rattle.standard.specs.Mixing.{leftOf, rightOf}
 use Rattle.ps_delay_channels.specs.Rows.{Before, Frame, Banded, earlier, mixedAt}
 use Rattle.ps_delay_channels.specs.Spans.{Framed, Alike, Spanned, channelOf, sideIn, delayedIn, sideFrom}
 use Rattle.ps_delay_channels.proofs.Sofar.{banded-none, banded-more, banded-alike}
-use Rattle.ps_delay_channels.proofs.Numbers.{placed}
+use Rattle.layout.proofs.Bounds.{bounds}
 
 abbrev Side : Type 0
 Side = Bool → Matrix → Complex → Complex → Complex
@@ -49,15 +49,15 @@ module _ (borders : List ℕ) (count : ℕ) (input gains rows fractions : List F
 module _ (l : Layout) (k end from : ℕ) (above : allPassOf l ≤ k) (some : k < end) (stands : from ≡ qmfBandOf l k) where
   pub span-frame : (slots : ℕ) (input left right : List Float) → end ≤ channelsOf l → Framed slots input left right → Frame from (end - k) slots input left right
   span-frame slots input left right within f =
-      let m = placed l in
+      let m = bounds l in
       record { bands = omega arith; few = f .few; input-long = f .input-long; left-long = f .left-long; right-long = f .right-long }
 
   -- in the rows of 12 channels, or of 29
   pub span-long : (first : ℕ) (before : List Float) → end ≤ shortDelayOf l → first ≡ qmfBandOf l (allPassOf l) → length before ≡ 336 → Before 14 24 first from (end - k) before
-  span-long first before within e long = let m = placed l in record { within = omega arith; wide = omega arith; long = omega arith }
+  span-long first before within e long = let m = bounds l in record { within = omega arith; wide = omega arith; long = omega arith }
 
   pub span-short : (first : ℕ) (short : List Float) → shortDelayOf l ≤ k → end ≤ channelsOf l → first ≡ qmfBandOf l (shortDelayOf l) → length short ≡ 58 → Before 1 58 first from (end - k) short
-  span-short first short low within e long = let m = placed l in record { within = omega arith; wide = omega arith; long = omega arith }
+  span-short first short low within e long = let m = bounds l in record { within = omega arith; wide = omega arith; long = omega arith }
 
 -- ---- its channels
 
@@ -65,10 +65,10 @@ module _ (borders : List ℕ) (count : ℕ) (input gains rows : List Float) (l :
   module _ (map : List ℕ) (k end from band : ℕ) (bands : map ≡ parameterMap l) (above : allPassOf l ≤ k) (some : k < end) (alike : Alike map k end) (own : band ≡ getD map k 0) (stands : from ≡ qmfBandOf l k) where
     -- the channel of a band of the span
     channel-from : (q : ℕ) → from ≤ q → k ≤ channelOf l q
-    channel-from q u = let m = placed l in omega arith
+    channel-from q u = let m = bounds l in omega arith
 
     channel-to : (q : ℕ) → from ≤ q → q < from + (end - k) → channelOf l q < end
-    channel-to q u v = let m = placed l in omega arith
+    channel-to q u v = let m = bounds l in omega arith
 
     side-same : (side : Side) (delayed : ℕ → ℕ → Complex) (n q : ℕ) → from ≤ q → q < from + (end - k)
         → delayed n q ≡ delayedIn l before short input n q
@@ -122,7 +122,7 @@ module _ (borders : List ℕ) (count : ℕ) (input gains rows : List Float) (l :
       → Spanned borders count input gains rows l before short slots k end mid-left mid-right new-left new-right
       → Spanned borders count input gains rows l before short slots start end left right new-left new-right
   spanned-more start k end above h u a b =
-      let m = placed l in
+      let m = bounds l in
       let all : k - start + (end - k) ≡ end - start = omega arith in
       let next : qmfBandOf l k ≡ qmfBandOf l start + (k - start) = omega arith in
       record {

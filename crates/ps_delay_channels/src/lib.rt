@@ -6,28 +6,22 @@ mod span;
 
 use layout::Layout;
 ghost use mathlib.Core.Path.{_≡_};
-ghost use Prim.Native.Nat.{_*_, _≤_, min};
+ghost use Prim.Native.Nat.{_*_, _≤_};
 ghost use lib.ListN.{length};
 ghost use Rattle.layout.specs.Numbers.{allPassOf, channelsOf};
 ghost use Rattle.ps_delay_channels.specs.Channels.{leftAfter, rightAfter, longAfter, shortAfter};
 ghost use Rattle.ps_delay_channels.specs.Spans.{Lent, Framed, Spanned, Kept, Done};
 
-fn least(a: usize, b: usize) -> usize
-    ensures { λ r. ⌜ r ≡ min a b ⌝ }
-{
-    if a < b { a } else { b }
-}
-
 // The channels in rising order. The lists that a span fills are lent, so that none is built inside the loop.
 fn each(
     layout: Layout,
     map: &[u8; 91],
-    borders: [u8; 4],
+    borders: [u8; limits::ENVELOPES],
     count: usize,
-    fractions: &[f64; 128],
+    fractions: &[f64; limits::FRACTIONS],
     input: &[f64],
     gains: &[f64; 1088],
-    rows: &[f64; 1360],
+    rows: &[f64; limits::MATRICES],
     before: &[f64; 336],
     short: &[f64; 58],
     slots: usize,
@@ -85,11 +79,11 @@ fn keep(
 // What every channel takes is made once: the map, the fractions, the memory by rows, and room for a band's coefficients.
 fn frame(
     layout: Layout,
-    borders: [u8; 4],
+    borders: [u8; limits::ENVELOPES],
     count: usize,
     input: &[f64],
     gains: &[f64; 1088],
-    rows: &[f64; 1360],
+    rows: &[f64; limits::MATRICES],
     long: &mut [f64; 336],
     short: &mut [f64; 58],
     slots: usize,
@@ -101,7 +95,7 @@ fn frame(
         (now (left .entry)) (now (right .entry)) (now (left .exit)) (now (right .exit)) (now (long .exit)) (now (short .exit)) ⌝ }
 {
     let map = ps_map::parameter_map(layout);
-    let mut fractions = [0.0f64; 128];
+    let mut fractions = [0.0f64; limits::FRACTIONS];
     let mut runs = [0.0f64; 256];
     let mut before = [0.0f64; 336];
     ps_stereo_slots::fractions(borders, count, &mut fractions);
@@ -129,11 +123,11 @@ fn frame(
 // every delay.
 pub fn delay_channels(
     layout: Layout,
-    borders: [u8; 4],
+    borders: [u8; limits::ENVELOPES],
     count: usize,
     input: &[f64],
     gains: &[f64; 1088],
-    rows: &[f64; 1360],
+    rows: &[f64; limits::MATRICES],
     long: &mut [f64; 336],
     short: &mut [f64; 58],
     slots: usize,
@@ -145,7 +139,7 @@ pub fn delay_channels(
     ensures long { λ _. ⌜ now (long .exit) ≡ longAfter layout borders count (now (input .entry)) (now (gains .entry)) (now (rows .entry)) (now (long .entry)) (now (short .entry)) slots (now (left .entry)) (now (right .entry)) ⌝ }
     ensures short { λ _. ⌜ now (short .exit) ≡ shortAfter layout borders count (now (input .entry)) (now (gains .entry)) (now (rows .entry)) (now (long .entry)) (now (short .entry)) slots (now (left .entry)) (now (right .entry)) ⌝ }
 {
-    let within = least(slots, 32);
+    let within = limits::least(slots, 32);
     let needed = 128 * within;
     if left.len() != needed {
         return;

@@ -26,20 +26,14 @@ fn span_end(map: &[u8; 91], k: usize, end: usize) -> usize
     next
 }
 
-fn wide(x: u8) -> usize
-    ensures { λ r. ⌜ r ≡ x ⌝ }
-{
-    x as usize
-}
-
 // Channels of one stereo band and of one delay, from their QMF bands: the band's coefficients slot by slot, and both sides.
 fn mix_span(
-    borders: [u8; 4],
+    borders: [u8; limits::ENVELOPES],
     count: usize,
-    fractions: &[f64; 128],
+    fractions: &[f64; limits::FRACTIONS],
     input: &[f64],
     gains: &[f64],
-    rows: &[f64; 1360],
+    rows: &[f64; limits::MATRICES],
     band: usize,
     from: usize,
     channels: usize,
@@ -83,12 +77,12 @@ pub fn span(
     layout: Layout,
     k: usize,
     map: &[u8; 91],
-    borders: [u8; 4],
+    borders: [u8; limits::ENVELOPES],
     count: usize,
-    fractions: &[f64; 128],
+    fractions: &[f64; limits::FRACTIONS],
     input: &[f64],
     gains: &[f64; 1088],
-    rows: &[f64; 1360],
+    rows: &[f64; limits::MATRICES],
     before: &[f64; 336],
     short: &[f64; 58],
     slots: usize,
@@ -102,7 +96,7 @@ pub fn span(
         Spanned borders count (now (input .entry)) (now (gains .entry)) (now (rows .entry)) layout (now (before .entry)) (now (short .entry)) slots k r
         (now (left .entry)) (now (right .entry)) (now (left .exit)) (now (right .exit)) ⌝ }
 {
-    let band = wide(map[k]);
+    let band = limits::wide(map[k]);
     let split = layout.split();
     let unsplit = layout.unsplit_from();
     let from = k + split - unsplit;

@@ -12,7 +12,7 @@ use lib.Ieee.{Float}
 use lib.ListN.{length}
 use Rattle.complex.specs.declared.Complex.{Complex}
 use Rattle.planar.specs.Cells.{cell, stored, planar, overwritten}
-use Rattle.planar.proofs.Cells.{stored-length, stored-same, stored-other, planar-is, planar-at, planar-length}
+use Rattle.planar.proofs.Cells.{stored-length, stored-same, stored-other, planar-is}
 use Rattle.ps_hybrid_analysis.specs.Stages.{Filled, Gathered, bandAt}
 
 pub filled-none : (apart : ℕ) (f : ℕ → Complex) (xs : List Float) → Filled apart 0 f xs xs
@@ -49,10 +49,6 @@ module _ {apart count : ℕ} {f : ℕ → Complex} {old new : List Float} (r : F
 pub record Filling (apart most : ℕ) (f : ℕ → Complex) (old new : List Float) (n : ℕ) : Type 0 where
   pub within : n ≤ most
   pub filled : Filled apart n f old new
-
--- runs of the same numbers
-pub planar-same : (apart : ℕ) (f g : ℕ → Complex) → ((i : ℕ) → i < apart → f i ≡ g i) → planar apart f ≡ planar apart g
-planar-same apart f g e = planar-is apart (planar apart f) g (planar-length apart f) (λ i u. planar-at apart f i u ∙ e i u)
 
 -- ---- a band's slots, from the history and then from the input
 pub gathered : (history input : List Float) (p count : ℕ) {zeros mid band : List Float} → Filled 44 6 (cell 6 history) zeros mid

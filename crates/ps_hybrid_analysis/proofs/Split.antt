@@ -16,10 +16,10 @@ use Rattle.layout.specs.declared.Layout.the-variants.{Bands20, Bands34}
 use Rattle.layout.specs.Numbers.{splitOf, unsplitFromOf}
 use Rattle.planar.specs.Frame.{sampleAt}
 use Rattle.standard.specs.Numbers.{nought}
-use Rattle.standard.specs.Hybrid.{prototypeFor, filtersOf, filtered, channelFor, joinedTo, spanOf, bandBelow, hybrid}
+use Rattle.standard.specs.Hybrid.{prototypeFor, filtersOf, filtered, channelFor, joinedTo, firstChannelOf, bandBelow, hybrid}
 use Rattle.ps_hybrid_analysis.specs.Stages.{Written, Blank}
 use Rattle.ps_hybrid_analysis.proofs.Channels.{written-over, written-on, written-same}
-use Rattle.ps_hybrid_analysis.proofs.Spans.{span-rises, span-top}
+use Rattle.standard.proofs.Spans.{spans}
 use Rattle.ps_hybrid_analysis.proofs.Taps.{filtered-same}
 
 -- ---- the filters of a band, one after the other
@@ -56,12 +56,12 @@ module _ (l : Layout) (p : ℕ) (x : ℕ → Complex) {slots from to : ℕ} {old
 
 -- the band's channels are 0, and then its filters are joined
 module _ (l : Layout) (p : ℕ) {slots from to : ℕ} {old mid : List Float} where
-  pub silenced : Written slots from to (λ k n. nought) old mid → from ≡ spanOf l p → to ≡ spanOf l (suc p) → Blank slots (spanOf l p) (spanOf l (suc p)) mid
+  pub silenced : Written slots from to (λ k n. nought) old mid → from ≡ firstChannelOf l p → to ≡ firstChannelOf l (suc p) → Blank slots (firstChannelOf l p) (firstChannelOf l (suc p)) mid
   silenced r a b = record { blank = rw (a, b) at (r .inside) }
 
   pub banded : (x : ℕ → Complex) (t : Prototype) {new : List Float} → Written slots from to (λ k n. nought) old mid
-      → Written slots (spanOf l p) (spanOf l (suc p)) (λ k n. joinedTo l p x n k (filtersOf t)) mid new → from ≡ spanOf l p → to ≡ spanOf l (suc p)
-      → t ≡ prototypeFor l p → Written slots (spanOf l p) (spanOf l (suc p)) (λ k n. joinedTo l p x n k (filtersOf (prototypeFor l p))) old new
+      → Written slots (firstChannelOf l p) (firstChannelOf l (suc p)) (λ k n. joinedTo l p x n k (filtersOf t)) mid new → from ≡ firstChannelOf l p → to ≡ firstChannelOf l (suc p)
+      → t ≡ prototypeFor l p → Written slots (firstChannelOf l p) (firstChannelOf l (suc p)) (λ k n. joinedTo l p x n k (filtersOf (prototypeFor l p))) old new
   banded x t r s a b g = written-over (rw (a, b) at r) (rw g at s)
 
 -- slots that agree as far as the filters reach give the same
@@ -72,7 +72,7 @@ joined-same l p x y n k (suc q) h =
     ap₂ (λ (a f : Complex). cond (eqb (channelFor l p q) k) (sum a f) a) (joined-same l p x y n k q h) (filtered-same (prototypeFor l p) q x y n h)
 
 -- ---- the split band of a channel
-pub band-of : (l : Layout) (k p : ℕ) → p < splitOf l → spanOf l p ≤ k → k < spanOf l (suc p) → bandBelow l k (splitOf l - 1) ≡ p
+pub band-of : (l : Layout) (k p : ℕ) → p < splitOf l → firstChannelOf l p ≤ k → k < firstChannelOf l (suc p) → bandBelow l k (splitOf l - 1) ≡ p
 band-of Bands20 k zero h u v = rw (lt-ltb k 8 (omega arith), lt-ltb k 6 v)
 band-of Bands20 k (suc zero) h u v = rw (lt-ltb k 8 v, le-ltb k 6 u)
 band-of Bands20 k (suc (suc zero)) h u v = rw (le-ltb k 8 u)
@@ -85,7 +85,7 @@ band-of Bands34 k (suc (suc (suc (suc zero)))) h u v = rw (le-ltb k 28 u)
 band-of Bands34 k (suc (suc (suc (suc (suc p))))) h u v = absurd (omega arith)
 
 module _ (l : Layout) (x : ℕ → ℕ → Complex) (n k : ℕ) where
-  pub hybrid-split : (p : ℕ) → p < splitOf l → spanOf l p ≤ k → k < spanOf l (suc p) → k < unsplitFromOf l
+  pub hybrid-split : (p : ℕ) → p < splitOf l → firstChannelOf l p ≤ k → k < firstChannelOf l (suc p) → k < unsplitFromOf l
       → joinedTo l p (x p) n k (filtersOf (prototypeFor l p)) ≡ hybrid l x n k
   unfolding hybrid
   hybrid-split p h u v w =
@@ -98,14 +98,14 @@ module _ (l : Layout) (x : ℕ → ℕ → Complex) (n k : ℕ) where
 
 -- ---- a split band more
 pub split-on : (l : Layout) (x : ℕ → ℕ → Complex) (p : ℕ) (y : ℕ → Complex) {slots : ℕ} {old mid new : List Float}
-    → Written slots 0 (spanOf l p) (λ k n. hybrid l x n k) old mid
-    → Written slots (spanOf l p) (spanOf l (suc p)) (λ k n. joinedTo l p y n k (filtersOf (prototypeFor l p))) mid new
-    → ((j : ℕ) → y j ≡ x p j) → slots ≤ 32 → p < splitOf l → Written slots 0 (spanOf l (p + 1)) (λ k n. hybrid l x n k) old new
+    → Written slots 0 (firstChannelOf l p) (λ k n. hybrid l x n k) old mid
+    → Written slots (firstChannelOf l p) (firstChannelOf l (suc p)) (λ k n. joinedTo l p y n k (filtersOf (prototypeFor l p))) mid new
+    → ((j : ℕ) → y j ≡ x p j) → slots ≤ 32 → p < splitOf l → Written slots 0 (firstChannelOf l (p + 1)) (λ k n. hybrid l x n k) old new
 split-on l x p y r s same few h =
     rw (add-one p)
     (written-on r
     (written-same s (λ k n. hybrid l x n k)
     (λ k n u v w.
     joined-same l p y (x p) n k (filtersOf (prototypeFor l p)) (λ j z. same j)
-    ∙ hybrid-split l x n k p h u v (omega (arith, span-top l p h))))
-    few (omega arith) (span-rises l p h))
+    ∙ hybrid-split l x n k p h u v (omega (arith, spans l (suc p) .most))))
+    few (omega arith) (spans l p .rises))

@@ -4,7 +4,6 @@ use mathlib.Core.Bool.{true, false}
 use mathlib.Core.List.{List}
 use Prim.Native.Nat.{ℕ, zero, suc, _+_, _-_, _*_, _<_, _≤_}
 use native.Mathlib.Omega.{arith}
-use lib.Ieee
 use lib.Ieee.{Float, nan, binary64, mul, ofBits}
 use lib.IntN.{ℤ}
 use lib.ListN.{length, getD}
@@ -21,12 +20,8 @@ use Rattle.root_table.specs.Values.{root8, root16, root24}
 use Rattle.standard.specs.Numbers as numbers
 use Rattle.standard.specs.Numbers.{_⊗_}
 use Rattle.standard.specs.Hybrid.{modulation, typeA, tap, tapsTo, filtered}
+use Rattle.standard.proofs.Literals.{zero-is}
 use Rattle.ps_hybrid_analysis.specs.Stages.{Waves, rootsOf, orderOf, turnOf, modulated, convolved}
-
--- the literal 0.0
-pub none : ofBits binary64 0 ≡ numbers.zero
-unfolding Ieee.ofBits Ieee.ofFields
-none = refl
 
 -- ---- a tap
 pub modulation-is : (p : Prototype) (q m : ℕ) → pairAt (rootsOf p) (2 * turnOf p q m) ≡ modulation p q m
@@ -84,7 +79,7 @@ module _ (p : Prototype) (g : Float) (q m : ℕ) (root : Complex) (is : root ≡
 
   pub real-tap : typeA p ≡ false → record { re = mul binary64 g (root .re); im = ofBits binary64 0 } ≡ modulated p g q m
   unfolding modulated _⊗_
-  real-tap t = rw (is, t, none)
+  real-tap t = rw (is, t, zero-is)
 
 pub prototype-length : (p : Prototype) → length (prototypeOf p) ≡ 13
 unfolding prototypeOf g0q8 g12q2 g0q12 g1q8 g234q4

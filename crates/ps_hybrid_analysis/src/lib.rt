@@ -17,7 +17,7 @@ ghost use Rattle.lists.specs.Part.{part};
 ghost use Rattle.planar.specs.Cells.{cell, planar, overwritten};
 ghost use Rattle.planar.specs.Frame.{sampleAt};
 ghost use Rattle.standard.specs.Numbers.{nought};
-ghost use Rattle.standard.specs.Hybrid.{prototypeFor, filtersOf, channelFor, spanOf, filtered, joinedTo, hybrid};
+ghost use Rattle.standard.specs.Hybrid.{prototypeFor, filtersOf, channelFor, firstChannelOf, filtered, joinedTo, hybrid};
 ghost use Rattle.ps_hybrid_analysis.specs.Analysis.{slotAt, answerOf, historyAfter, samplesAfter};
 ghost use Rattle.ps_hybrid_analysis.specs.Stages.{Waves, rootsOf, orderOf, bandAt, Written, Blank, Kept};
 
@@ -84,8 +84,8 @@ fn apply_all(
     requires { ⌜ (prototype ≡ prototypeFor layout p) × (p < splitOf layout) ⌝ }
     requires { ⌜ ((length (now waves) ≡ 48) × Waves (rootsOf prototype) (orderOf prototype) (now waves)) × (now g ≡ prototypeOf prototype) ⌝ }
     requires { ⌜ (length (now band) ≡ 88) × ((length (now samples) ≡ 3200) × (slots ≤ 32)) ⌝ }
-    requires { ⌜ Blank slots (spanOf layout p) (spanOf layout (suc p)) (now samples) ⌝ }
-    ensures { λ _. ⌜ Written slots (spanOf layout p) (spanOf layout (suc p))
+    requires { ⌜ Blank slots (firstChannelOf layout p) (firstChannelOf layout (suc p)) (now samples) ⌝ }
+    ensures { λ _. ⌜ Written slots (firstChannelOf layout p) (firstChannelOf layout (suc p))
         (λ k n. joinedTo layout p (cell 44 (now (band .entry))) n k (filtersOf prototype)) (now (samples .entry)) (now (samples .exit)) ⌝ }
 {
     let count = plan::filters_of(prototype);
@@ -105,8 +105,8 @@ fn modulate(
 )
     requires { ⌜ (prototype ≡ prototypeFor layout p) × (p < splitOf layout) ⌝ }
     requires { ⌜ (length (now band) ≡ 88) × ((length (now samples) ≡ 3200) × (slots ≤ 32)) ⌝ }
-    requires { ⌜ Blank slots (spanOf layout p) (spanOf layout (suc p)) (now samples) ⌝ }
-    ensures { λ _. ⌜ Written slots (spanOf layout p) (spanOf layout (suc p))
+    requires { ⌜ Blank slots (firstChannelOf layout p) (firstChannelOf layout (suc p)) (now samples) ⌝ }
+    ensures { λ _. ⌜ Written slots (firstChannelOf layout p) (firstChannelOf layout (suc p))
         (λ k n. joinedTo layout p (cell 44 (now (band .entry))) n k (filtersOf prototype)) (now (samples .entry)) (now (samples .exit)) ⌝ }
 {
     let g = prototype.taps();
@@ -134,7 +134,7 @@ fn modulate(
 fn filter_band(layout: Layout, p: usize, band: &[f64], slots: usize, samples: &mut [f64])
     requires { ⌜ p < splitOf layout ⌝ }
     requires { ⌜ (length (now band) ≡ 88) × ((length (now samples) ≡ 3200) × (slots ≤ 32)) ⌝ }
-    ensures { λ _. ⌜ Written slots (spanOf layout p) (spanOf layout (suc p))
+    ensures { λ _. ⌜ Written slots (firstChannelOf layout p) (firstChannelOf layout (suc p))
         (λ k n. joinedTo layout p (cell 44 (now (band .entry))) n k (filtersOf (prototypeFor layout p))) (now (samples .entry)) (now (samples .exit)) ⌝ }
 {
     let from = plan::span(layout, p);
@@ -156,7 +156,7 @@ fn split_band(
     requires { ⌜ (p < splitOf layout) × ((slots ≤ 32) × (length (now history) ≡ 12)) ⌝ }
     requires { ⌜ (128 * (slots + 6) ≤ length (now input)) × (length (now samples) ≡ 3200) ⌝ }
     ensures history { λ _. ⌜ now (history .exit) ≡ planar 6 (λ j. bandAt (now (history .entry)) (now (input .entry)) p (slots + j)) ⌝ }
-    ensures samples { λ _. ⌜ Written slots (spanOf layout p) (spanOf layout (suc p))
+    ensures samples { λ _. ⌜ Written slots (firstChannelOf layout p) (firstChannelOf layout (suc p))
         (λ k n. joinedTo layout p (bandAt (now (history .entry)) (now (input .entry)) p) n k (filtersOf (prototypeFor layout p)))
         (now (samples .entry)) (now (samples .exit)) ⌝ }
 {

@@ -4,7 +4,7 @@ use layout::Layout;
 ghost use mathlib.Core.Path.{_≡_};
 ghost use Prim.Native.Nat.{_<_};
 ghost use Rattle.layout.specs.Numbers.{splitOf};
-ghost use Rattle.standard.specs.Hybrid.{prototypeFor, filtersOf, typeA, channelFor, spanOf};
+ghost use Rattle.standard.specs.Hybrid.{prototypeFor, filtersOf, typeA, channelFor, firstChannelOf};
 ghost use Rattle.ps_hybrid_analysis.specs.Stages.{orderOf, turnOf};
 
 // The prototype of QMF band p.
@@ -81,7 +81,7 @@ pub fn is_complex(prototype: Prototype) -> bool
 
 // The first hybrid channel of a split band.
 pub fn span(layout: Layout, p: usize) -> usize
-    ensures { λ r. ⌜ r ≡ spanOf layout p ⌝ }
+    ensures { λ r. ⌜ r ≡ firstChannelOf layout p ⌝ }
 {
     match layout {
         Layout::Bands20 => match p {

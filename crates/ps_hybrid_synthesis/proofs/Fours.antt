@@ -15,7 +15,7 @@ use Rattle.complex.specs.declared.Complex.{Complex}
 use Rattle.complex.specs.Operations.{sum}
 use Rattle.lists.proofs.Maps.{tabulate-at}
 use Rattle.ps_hybrid_synthesis.specs.Column.{numberIn, written}
-use Rattle.ps_hybrid_synthesis.specs.Lanes.{on}
+use Rattle.planar.specs.Lanes.{on}
 use Rattle.ps_hybrid_synthesis.specs.Loops.{fourPassed, fourSummed}
 use Rattle.ps_hybrid_synthesis.proofs.Columns.{Column, written-length, column-none, column-more, column-all}
 

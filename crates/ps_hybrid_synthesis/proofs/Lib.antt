@@ -1,4 +1,3 @@
-pub mod Literals
 pub mod Columns
 pub mod Ways
 pub mod Spans

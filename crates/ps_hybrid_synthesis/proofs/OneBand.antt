@@ -13,18 +13,19 @@ use Rattle.complex.specs.declared.Complex.{Complex}
 use Rattle.complex.specs.Operations.{sum}
 use Rattle.layout.specs.declared.Layout.{Layout}
 use Rattle.layout.specs.Numbers.{splitOf, unsplitFromOf, channelsOf}
+use Rattle.layout.proofs.Bounds.{bounds}
 use Rattle.lists.specs.Rows.{tabulate}
 use Rattle.lists.proofs.Maps.{tabulate-at, tabulate-same}
-use Rattle.standard.specs.Hybrid.{bandBelow, spanOf}
+use Rattle.standard.specs.Hybrid.{bandBelow, firstChannelOf}
 use Rattle.ps_hybrid_synthesis.specs.declared.Band.{Band}
 use Rattle.ps_hybrid_synthesis.specs.Column.{numberIn, written, started, added, column, cellAfter, rowsAfter, lanesAfter}
-use Rattle.ps_hybrid_synthesis.specs.Lanes.{on}
+use Rattle.planar.specs.Lanes.{on}
 use Rattle.ps_hybrid_synthesis.specs.Loops.{InBand, oneBand, fourSummed}
 use Rattle.ps_hybrid_synthesis.proofs.Columns.{written-length}
 use Rattle.ps_hybrid_synthesis.proofs.Rising.{written-here}
-use Rattle.ps_hybrid_synthesis.proofs.Spans.{Spanned, column-spanned, column-only, last-channel, split-few}
+use Rattle.ps_hybrid_synthesis.proofs.Spans.{Spanned, column-spanned, column-only}
 use Rattle.ps_hybrid_synthesis.proofs.Ways.{as-started, as-added, with-both}
-use Rattle.ps_hybrid_synthesis.proofs.WaysOfFour.{both}
+use Rattle.lists.proofs.Alls.{both}
 
 -- of a column that is written twice the second stands
 written-twice : (f g h : ℕ → Complex) (column : ℕ) (rows : List Float) (slots : ℕ) → ((n : ℕ) → n < slots → g n ≡ h n)
@@ -49,7 +50,7 @@ written-twice f g h column rows slots same =
 
 -- channel j of the band, which is not its first, comes behind those whose values are there
 module _ (l : Layout) (j q : ℕ) (channel : ℕ → Complex) (rows : List Float) (slots : ℕ) (value : ℕ → Complex) where
-  next-added : Spanned l j q → spanOf l q < j → j < unsplitFromOf l → q < 64 → 128 * slots ≤ length rows
+  next-added : Spanned l j q → firstChannelOf l q < j → j < unsplitFromOf l → q < 64 → 128 * slots ≤ length rows
       → rowsAfter l j channel (written value q rows slots) slots ≡ written (λ n. sum (value n) (channel n)) q rows slots
   next-added s past below small room =
       sym (as-added l j channel (written value q rows slots) slots below band in-band (λ e. omega (arith, past)) ∙ with-both l j channel (written value q rows slots) slots inside long)
@@ -57,16 +58,16 @@ module _ (l : Layout) (j q : ℕ) (channel : ℕ → Complex) (rows : List Float
       (λ n u. ap (λ (z : Complex). sum z (channel n)) (written-here value q rows slots n q small u room refl))
     where
       band : Band
-      band = record { column = q; first = spanOf l q }
+      band = record { column = q; first = firstChannelOf l q }
 
       here : bandBelow l j (splitOf l - 1) ≡ q
       here = rw (lt-ltb j (unsplitFromOf l) below) at (column-only l j q s)
 
       in-band : InBand l j band
-      in-band = record { column = sym here; first = ap (spanOf l) (sym here); small = small }
+      in-band = record { column = sym here; first = ap (firstChannelOf l) (sym here); small = small }
 
       inside : j < channelsOf l
-      inside = omega (arith, last-channel l, split-few l)
+      inside = let b = bounds l in omega arith
 
       long : 128 * slots ≤ length (written value q rows slots)
       long = rw written-length room
@@ -83,7 +84,7 @@ module _ (l : Layout) (k : ℕ) (one : oneBand l k ≡ true) where
   first-split = omega (arith, all-split)
 
   first-there : k < channelsOf l
-  first-there = omega (arith, first-split, last-channel l, split-few l)
+  first-there = let b = bounds l in omega (arith, first-split)
 
   ends : bandBelow l k (splitOf l - 1) ≡ bandBelow l (k + 3) (splitOf l - 1)
   ends =
@@ -105,7 +106,7 @@ module _ (l : Layout) (k : ℕ) (one : oneBand l k ≡ true) where
     other-added : (i : ℕ) → 0 < i → i < 4 → (channel value : ℕ → Complex)
         → rowsAfter l (k + i) channel (written value (band .column) rows slots) slots ≡ written (λ n. sum (value n) (channel n)) (band .column) rows slots
     other-added i some few channel value =
-        let from : spanOf l (band .column) ≤ k = rw (b .column) (first-spanned .from) in
+        let from : firstChannelOf l (band .column) ≤ k = rw (b .column) (first-spanned .from) in
         next-added l (k + i) (band .column) channel rows slots value (each-spanned i few (band .column) (b .column)) (omega arith) (omega (arith, all-split)) (b .small) room
 
     four-summed : (first : ℕ → Complex) → written first (band .column) rows slots ≡ written (cellAfter l k (on 0 runs) rows) (column l k) rows slots

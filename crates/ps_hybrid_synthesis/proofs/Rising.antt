@@ -18,9 +18,9 @@ use Rattle.lists.proofs.Maps.{tabulate-at}
 use Rattle.planar.specs.Frame.{qmfAt}
 use Rattle.planar.proofs.Cells.{by-parts}
 use Rattle.standard.specs.Numbers.{nought}
-use Rattle.standard.specs.Hybrid.{spanOf, addedTo}
+use Rattle.standard.specs.Hybrid.{firstChannelOf, addedTo}
 use Rattle.ps_hybrid_synthesis.specs.Column.{numberIn, written, started, added, column, cellAfter, rowsAfter, lanesAfter}
-use Rattle.ps_hybrid_synthesis.specs.Lanes.{on}
+use Rattle.planar.specs.Lanes.{on}
 use Rattle.ps_hybrid_synthesis.specs.Rising.{columnTo, Risen}
 use Rattle.ps_hybrid_synthesis.proofs.Spans.{Spanned, column-spanned, column-unsplit, column-few, split-within, unsplit-passed, column-untouched, column-other}
 use Rattle.ps_hybrid_synthesis.proofs.Columns.{written-length}
@@ -72,23 +72,23 @@ module _ (y : ℕ → Complex) (from : ℕ) where
   added-next count = refl
 
 module _ (l : Layout) (y : ℕ → Complex) (before : Complex) (k : ℕ) where
-  column-started : k ≡ spanOf l (column l k) → Spanned l k (column l k) → sum nought (y k) ≡ columnTo l y before (suc k) (column l k)
+  column-started : k ≡ firstChannelOf l (column l k) → Spanned l k (column l k) → sum nought (y k) ≡ columnTo l y before (suc k) (column l k)
   column-started e s =
-      let one : suc k - spanOf l (column l k) ≡ 1 = omega arith in
+      let one : suc k - firstChannelOf l (column l k) ≡ 1 = omega arith in
       ap (λ (j : ℕ). sum nought (y j)) e
-      ∙ sym (added-first y (spanOf l (column l k)))
-      ∙ ap (addedTo y (spanOf l (column l k))) (sym one)
+      ∙ sym (added-first y (firstChannelOf l (column l k)))
+      ∙ ap (addedTo y (firstChannelOf l (column l k))) (sym one)
       ∙ sym (split-within l y before (suc k) (column l k) (s .inside) (omega arith) (s .to))
 
-  column-added : k ≢ spanOf l (column l k) → Spanned l k (column l k)
+  column-added : k ≢ firstChannelOf l (column l k) → Spanned l k (column l k)
       → sum (columnTo l y before k (column l k)) (y k) ≡ columnTo l y before (suc k) (column l k)
   column-added ne s =
-      let past : spanOf l (column l k) < k = omega (arith, s .from, ne) in
-      let here : spanOf l (column l k) + (k - spanOf l (column l k)) ≡ k = omega arith in
-      let more : suc (k - spanOf l (column l k)) ≡ suc k - spanOf l (column l k) = omega arith in
+      let past : firstChannelOf l (column l k) < k = omega (arith, s .from, ne) in
+      let here : firstChannelOf l (column l k) + (k - firstChannelOf l (column l k)) ≡ k = omega arith in
+      let more : suc (k - firstChannelOf l (column l k)) ≡ suc k - firstChannelOf l (column l k) = omega arith in
       ap₂ sum (split-within l y before k (column l k) (s .inside) past (omega (arith, s .to))) (ap y (sym here))
-      ∙ sym (added-next y (spanOf l (column l k)) (k - spanOf l (column l k)))
-      ∙ ap (addedTo y (spanOf l (column l k))) more
+      ∙ sym (added-next y (firstChannelOf l (column l k)) (k - firstChannelOf l (column l k)))
+      ∙ ap (addedTo y (firstChannelOf l (column l k))) more
       ∙ sym (split-within l y before (suc k) (column l k) (s .inside) (omega arith) (s .to))
 
   column-passed : unsplitFromOf l ≤ k → y k ≡ columnTo l y before (suc k) (column l k)
@@ -100,7 +100,7 @@ module _ (l : Layout) (y : ℕ → Complex) (before : Complex) (k : ℕ) where
 -- what the channel leaves in its column
 cell-next : (l : Layout) (y : ℕ → Complex) (before : Complex) (k n : ℕ) (channel : ℕ → Complex) (rows : List Float) → channel n ≡ y k
     → qmfAt rows n (column l k) ≡ columnTo l y before k (column l k) → cellAfter l k channel rows n ≡ columnTo l y before (suc k) (column l k)
-cell-next l y before k n channel rows comes stands = go (ltb k (unsplitFromOf l)) refl (eqb k (spanOf l (column l k))) refl
+cell-next l y before k n channel rows comes stands = go (ltb k (unsplitFromOf l)) refl (eqb k (firstChannelOf l (column l k))) refl
   where
     first : Complex
     first = started channel n
@@ -108,19 +108,19 @@ cell-next l y before k n channel rows comes stands = go (ltb k (unsplitFromOf l)
     next : Complex
     next = added channel rows (column l k) n
 
-    chosen : (s : Bool) → ltb k (unsplitFromOf l) ≡ s → (t : Bool) → eqb k (spanOf l (column l k)) ≡ t → cellAfter l k channel rows n ≡ cond s (cond t first next) (channel n)
+    chosen : (s : Bool) → ltb k (unsplitFromOf l) ≡ s → (t : Bool) → eqb k (firstChannelOf l (column l k)) ≡ t → cellAfter l k channel rows n ≡ cond s (cond t first next) (channel n)
     chosen s e t f = ap₂ (λ (a b : Bool). cond a (cond b first next) (channel n)) e f
 
-    go : (s : Bool) → ltb k (unsplitFromOf l) ≡ s → (t : Bool) → eqb k (spanOf l (column l k)) ≡ t
+    go : (s : Bool) → ltb k (unsplitFromOf l) ≡ s → (t : Bool) → eqb k (firstChannelOf l (column l k)) ≡ t
         → cellAfter l k channel rows n ≡ columnTo l y before (suc k) (column l k)
     go true e true f =
         chosen true e true f
         ∙ ap (sum nought) comes
-        ∙ column-started l y before k (eqb-true k (spanOf l (column l k)) f) (column-spanned l k (ltb-true k (unsplitFromOf l) e))
+        ∙ column-started l y before k (eqb-true k (firstChannelOf l (column l k)) f) (column-spanned l k (ltb-true k (unsplitFromOf l) e))
     go true e false f =
         chosen true e false f
         ∙ ap₂ sum stands comes
-        ∙ column-added l y before k (eqb-false k (spanOf l (column l k)) f) (column-spanned l k (ltb-true k (unsplitFromOf l) e))
+        ∙ column-added l y before k (eqb-false k (firstChannelOf l (column l k)) f) (column-spanned l k (ltb-true k (unsplitFromOf l) e))
     go false e t f = chosen false e t f ∙ comes ∙ column-passed l y before k (ltb-false k (unsplitFromOf l) e)
 
 -- ---- the laws

@@ -12,67 +12,23 @@ use Rattle.complex.specs.declared.Complex.{Complex}
 use Rattle.layout.specs.declared.Layout.{Layout}
 use Rattle.layout.specs.declared.Layout.the-variants.{Bands20, Bands34}
 use Rattle.layout.specs.Numbers.{splitOf, unsplitFromOf, channelsOf}
-use Rattle.standard.specs.Hybrid.{bandBelow, spanOf, addedTo}
+use Rattle.layout.proofs.Bounds.{bounds}
+use Rattle.standard.specs.Hybrid.{bandBelow, firstChannelOf, addedTo}
+use Rattle.standard.proofs.Spans.{span-first, spans}
 use Rattle.ps_hybrid_synthesis.specs.Column.{column}
 use Rattle.ps_hybrid_synthesis.specs.Rising.{columnTo}
 
 -- ---- the numbers of the two layouts
 
-span-first : (l : Layout) → spanOf l 0 ≡ 0
-span-first Bands20 = refl
-span-first Bands34 = refl
-
-span-last : (l : Layout) → spanOf l (suc (splitOf l - 1)) ≡ unsplitFromOf l
+span-last : (l : Layout) → firstChannelOf l (suc (splitOf l - 1)) ≡ unsplitFromOf l
 span-last Bands20 = refl
 span-last Bands34 = refl
 
-split-some : (l : Layout) → suc (splitOf l - 1) ≡ splitOf l
-split-some Bands20 = refl
-split-some Bands34 = refl
+span-above : (l : Layout) (p d : ℕ) → firstChannelOf l p ≤ firstChannelOf l (p + d)
+span-above l p zero = rw add-zero (le-refl (firstChannelOf l p))
+span-above l p (suc d) = rw add-suc (omega (arith, span-above l p d, spans l (p + d) .rises))
 
--- the unsplit bands up to the 64th are the channels up to the last
-pub last-channel : (l : Layout) → channelsOf l + splitOf l ≡ 64 + unsplitFromOf l
-last-channel Bands20 = refl
-last-channel Bands34 = refl
-
-pub channels-few : (l : Layout) → channelsOf l ≤ 91
-channels-few Bands20 = omega arith
-channels-few Bands34 = omega arith
-
-pub split-few : (l : Layout) → splitOf l ≤ 64
-split-few Bands20 = omega arith
-split-few Bands34 = omega arith
-
-span-rises : (l : Layout) (q : ℕ) → spanOf l q ≤ spanOf l (suc q)
-span-rises Bands20 zero = omega arith
-span-rises Bands20 (suc zero) = omega arith
-span-rises Bands20 (suc (suc zero)) = omega arith
-span-rises Bands20 (suc (suc (suc q))) = omega arith
-span-rises Bands34 zero = omega arith
-span-rises Bands34 (suc zero) = omega arith
-span-rises Bands34 (suc (suc zero)) = omega arith
-span-rises Bands34 (suc (suc (suc zero))) = omega arith
-span-rises Bands34 (suc (suc (suc (suc zero)))) = omega arith
-span-rises Bands34 (suc (suc (suc (suc (suc q))))) = omega arith
-
--- no span is empty
-span-some : (l : Layout) (q : ℕ) → q < splitOf l → spanOf l q < spanOf l (suc q)
-span-some Bands20 zero h = omega arith
-span-some Bands20 (suc zero) h = omega arith
-span-some Bands20 (suc (suc zero)) h = omega arith
-span-some Bands20 (suc (suc (suc q))) h = absurd (omega arith)
-span-some Bands34 zero h = omega arith
-span-some Bands34 (suc zero) h = omega arith
-span-some Bands34 (suc (suc zero)) h = omega arith
-span-some Bands34 (suc (suc (suc zero))) h = omega arith
-span-some Bands34 (suc (suc (suc (suc zero)))) h = omega arith
-span-some Bands34 (suc (suc (suc (suc (suc q))))) h = absurd (omega arith)
-
-span-above : (l : Layout) (p d : ℕ) → spanOf l p ≤ spanOf l (p + d)
-span-above l p zero = rw add-zero (le-refl (spanOf l p))
-span-above l p (suc d) = rw add-suc (omega (arith, span-above l p d, span-rises l (p + d)))
-
-span-ordered : (l : Layout) (p q : ℕ) → p ≤ q → spanOf l p ≤ spanOf l q
+span-ordered : (l : Layout) (p q : ℕ) → p ≤ q → firstChannelOf l p ≤ firstChannelOf l q
 span-ordered l p q h =
     let over : p + (q - p) ≡ q = omega arith in
     rw over at (span-above l p (q - p))
@@ -82,26 +38,26 @@ span-ordered l p q h =
 -- channel k lies in the span of the split band q
 pub record Spanned (l : Layout) (k q : ℕ) : Type 0 where
   pub inside : q < splitOf l
-  pub from : spanOf l q ≤ k
-  pub to : k < spanOf l (suc q)
+  pub from : firstChannelOf l q ≤ k
+  pub to : k < firstChannelOf l (suc q)
 
 record Below (l : Layout) (k p q : ℕ) : Type 0 where
   most : q ≤ p
-  from : spanOf l q ≤ k
-  to : k < spanOf l (suc q)
+  from : firstChannelOf l q ≤ k
+  to : k < firstChannelOf l (suc q)
 
-band-below : (l : Layout) (k p : ℕ) → k < spanOf l (suc p) → Below l k p (bandBelow l k p)
+band-below : (l : Layout) (k p : ℕ) → k < firstChannelOf l (suc p) → Below l k p (bandBelow l k p)
 band-below l k zero h = record { most = le-refl 0; from = omega (arith, span-first l); to = h }
-band-below l k (suc p) h = go (ltb k (spanOf l (suc p))) refl (band-below l k p)
+band-below l k (suc p) h = go (ltb k (firstChannelOf l (suc p))) refl (band-below l k p)
   where
-    go : (t : Bool) → ltb k (spanOf l (suc p)) ≡ t → (k < spanOf l (suc p) → Below l k p (bandBelow l k p)) → Below l k (suc p) (bandBelow l k (suc p))
+    go : (t : Bool) → ltb k (firstChannelOf l (suc p)) ≡ t → (k < firstChannelOf l (suc p) → Below l k p (bandBelow l k p)) → Below l k (suc p) (bandBelow l k (suc p))
     go true e lower =
-        let b = lower (ltb-true k (spanOf l (suc p)) e) in
+        let b = lower (ltb-true k (firstChannelOf l (suc p)) e) in
         rw e (record { most = omega (arith, b .most); from = b .from; to = b .to })
-    go false e lower = rw e (record { most = le-refl (suc p); from = ltb-false k (spanOf l (suc p)) e; to = h })
+    go false e lower = rw e (record { most = le-refl (suc p); from = ltb-false k (firstChannelOf l (suc p)) e; to = h })
 
 -- two bands that hold one channel are one
-spans-apart : (l : Layout) (k p q : ℕ) → spanOf l p ≤ k → k < spanOf l (suc q) → p ≤ q
+spans-apart : (l : Layout) (k p q : ℕ) → firstChannelOf l p ≤ k → k < firstChannelOf l (suc q) → p ≤ q
 spans-apart l k p q from to = go (ltb q p) refl
   where
     go : (t : Bool) → ltb q p ≡ t → p ≤ q
@@ -113,13 +69,13 @@ module _ (l : Layout) (k : ℕ) where
   column-spanned h =
       let b = band-below l k (splitOf l - 1) (rw span-last h) in
       rw (lt-ltb k (unsplitFromOf l) h)
-      (record { inside = omega (arith, b .most, split-some l); from = b .from; to = b .to })
+      (record { inside = omega (arith, b .most, bounds l .some-split); from = b .from; to = b .to })
 
   pub column-unsplit : unsplitFromOf l ≤ k → column l k ≡ k + splitOf l - unsplitFromOf l
   column-unsplit h = rw (le-ltb k (unsplitFromOf l) h)
 
   spanned-below : (q : ℕ) → Spanned l k q → k < unsplitFromOf l
-  spanned-below q s = omega (arith, s .to, span-ordered l (suc q) (suc (splitOf l - 1)) (omega (arith, s .inside, split-some l)), span-last l)
+  spanned-below q s = omega (arith, s .to, span-ordered l (suc q) (suc (splitOf l - 1)) (omega (arith, s .inside, bounds l .some-split)), span-last l)
 
   pub column-only : (q : ℕ) → Spanned l k q → column l k ≡ q
   column-only q s =
@@ -130,24 +86,24 @@ module _ (l : Layout) (k : ℕ) where
   column-few h = go (ltb k (unsplitFromOf l)) refl
     where
       go : (t : Bool) → ltb k (unsplitFromOf l) ≡ t → column l k < 64
-      go true e = omega (arith, column-spanned (ltb-true k (unsplitFromOf l) e) .inside, split-few l, last-channel l)
-      go false e = rw (column-unsplit (ltb-false k (unsplitFromOf l) e)) (omega (arith, last-channel l))
+      go true e = omega (arith, column-spanned (ltb-true k (unsplitFromOf l) e) .inside, bounds l .split)
+      go false e = let b = bounds l in rw (column-unsplit (ltb-false k (unsplitFromOf l) e)) (omega arith)
 
 -- ---- what stands in a column
 
 module _ (l : Layout) (y : ℕ → Complex) (before : Complex) (k q : ℕ) where
   module _ (h : q < splitOf l) where
-    pub split-before : k ≤ spanOf l q → columnTo l y before k q ≡ before
+    pub split-before : k ≤ firstChannelOf l q → columnTo l y before k q ≡ before
     unfolding columnTo
-    split-before u = rw (lt-ltb q (splitOf l) h, le-leb k (spanOf l q) u)
+    split-before u = rw (lt-ltb q (splitOf l) h, le-leb k (firstChannelOf l q) u)
 
-    pub split-within : spanOf l q < k → k ≤ spanOf l (suc q) → columnTo l y before k q ≡ addedTo y (spanOf l q) (k - spanOf l q)
+    pub split-within : firstChannelOf l q < k → k ≤ firstChannelOf l (suc q) → columnTo l y before k q ≡ addedTo y (firstChannelOf l q) (k - firstChannelOf l q)
     unfolding columnTo
-    split-within u v = rw (lt-ltb q (splitOf l) h, lt-leb k (spanOf l q) u, min-eq-left v)
+    split-within u v = rw (lt-ltb q (splitOf l) h, lt-leb k (firstChannelOf l q) u, min-eq-left v)
 
-    pub split-behind : spanOf l (suc q) ≤ k → columnTo l y before k q ≡ addedTo y (spanOf l q) (spanOf l (suc q) - spanOf l q)
+    pub split-behind : firstChannelOf l (suc q) ≤ k → columnTo l y before k q ≡ addedTo y (firstChannelOf l q) (firstChannelOf l (suc q) - firstChannelOf l q)
     unfolding columnTo
-    split-behind u = rw (lt-ltb q (splitOf l) h, lt-leb k (spanOf l q) (omega (arith, span-some l q h)), min-eq-right u)
+    split-behind u = rw (lt-ltb q (splitOf l) h, lt-leb k (firstChannelOf l q) (omega (arith, spans l q .some h)), min-eq-right u)
 
   module _ (h : splitOf l ≤ q) where
     pub unsplit-before : k ≤ q + unsplitFromOf l - splitOf l → columnTo l y before k q ≡ before
@@ -170,14 +126,14 @@ column-untouched l y before q = go (ltb q (splitOf l)) refl
 pub column-other : (l : Layout) (y : ℕ → Complex) (before : Complex) (k q : ℕ) → column l k ≢ q → columnTo l y before k q ≡ columnTo l y before (suc k) q
 column-other l y before k q ne = go (ltb q (splitOf l)) refl
   where
-    split : (h : q < splitOf l) → (s : Bool) → ltb k (spanOf l q) ≡ s → (t : Bool) → ltb k (spanOf l (suc q)) ≡ t
+    split : (h : q < splitOf l) → (s : Bool) → ltb k (firstChannelOf l q) ≡ s → (t : Bool) → ltb k (firstChannelOf l (suc q)) ≡ t
         → columnTo l y before k q ≡ columnTo l y before (suc k) q
     split h true e t f =
-        let below : k < spanOf l q = ltb-true k (spanOf l q) e in
+        let below : k < firstChannelOf l q = ltb-true k (firstChannelOf l q) e in
         split-before l y before k q h (omega arith) ∙ sym (split-before l y before (suc k) q h (omega arith))
-    split h false e true f = absurd (ne (column-only l k q (record { inside = h; from = ltb-false k (spanOf l q) e; to = ltb-true k (spanOf l (suc q)) f })))
+    split h false e true f = absurd (ne (column-only l k q (record { inside = h; from = ltb-false k (firstChannelOf l q) e; to = ltb-true k (firstChannelOf l (suc q)) f })))
     split h false e false f =
-        let past : spanOf l (suc q) ≤ k = ltb-false k (spanOf l (suc q)) f in
+        let past : firstChannelOf l (suc q) ≤ k = ltb-false k (firstChannelOf l (suc q)) f in
         split-behind l y before k q h past ∙ sym (split-behind l y before (suc k) q h (omega arith))
 
     unsplit : (h : splitOf l ≤ q) → (s : Bool) → ltb k (q + unsplitFromOf l - splitOf l) ≡ s → (t : Bool) → ltb (q + unsplitFromOf l - splitOf l) k ≡ t
@@ -194,5 +150,5 @@ column-other l y before k q ne = go (ltb q (splitOf l)) refl
         absurd (ne (column-unsplit l k (omega arith) ∙ omega arith))
 
     go : (t : Bool) → ltb q (splitOf l) ≡ t → columnTo l y before k q ≡ columnTo l y before (suc k) q
-    go true e = split (ltb-true q (splitOf l) e) (ltb k (spanOf l q)) refl (ltb k (spanOf l (suc q))) refl
+    go true e = split (ltb-true q (splitOf l) e) (ltb k (firstChannelOf l q)) refl (ltb k (firstChannelOf l (suc q))) refl
     go false e = unsplit (ltb-false q (splitOf l) e) (ltb k (q + unsplitFromOf l - splitOf l)) refl (ltb (q + unsplitFromOf l - splitOf l) k) refl

@@ -9,7 +9,7 @@ use lib.ListN.{length}
 use Rattle.complex.specs.declared.Complex.{Complex}
 use Rattle.layout.specs.declared.Layout.{Layout}
 use Rattle.layout.specs.Numbers.{splitOf, unsplitFromOf, channelsOf}
-use Rattle.standard.specs.Hybrid.{bandBelow, spanOf}
+use Rattle.standard.specs.Hybrid.{bandBelow, firstChannelOf}
 use Rattle.ps_hybrid_synthesis.specs.declared.Band.{Band}
 use Rattle.ps_hybrid_synthesis.specs.Column.{written, started, added, column, cellAfter, rowsAfter}
 use Rattle.ps_hybrid_synthesis.specs.Loops.{InBand}
@@ -25,12 +25,12 @@ module _ (l : Layout) (k : ℕ) (channel : ℕ → Complex) (rows : List Float) 
   module _ (h : k < unsplitFromOf l) (band : Band) (b : InBand l k band) where
     pub as-started : k ≡ band .first → written (started channel) (band .column) rows slots ≡ after
     unfolding written
-    as-started e = rw (lt-ltb k (unsplitFromOf l) h, eq-eqb k (spanOf l (bandBelow l k (splitOf l - 1))) (e ∙ b .first), b .column)
+    as-started e = rw (lt-ltb k (unsplitFromOf l) h, eq-eqb k (firstChannelOf l (bandBelow l k (splitOf l - 1))) (e ∙ b .first), b .column)
 
     pub as-added : (k ≡ band .first → ⊥) → written (added channel rows (band .column)) (band .column) rows slots ≡ after
     unfolding written
     as-added n =
-        rw (lt-ltb k (unsplitFromOf l) h, ne-eqb k (spanOf l (bandBelow l k (splitOf l - 1))) (λ e. n (e ∙ sym (b .first))), b .column)
+        rw (lt-ltb k (unsplitFromOf l) h, ne-eqb k (firstChannelOf l (bandBelow l k (splitOf l - 1))) (λ e. n (e ∙ sym (b .first))), b .column)
 
   -- ---- a channel or rows that are not there change nothing
   pub without-channel : channelsOf l ≤ k → rows ≡ rowsAfter l k channel rows slots

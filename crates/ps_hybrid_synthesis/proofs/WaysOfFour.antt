@@ -1,6 +1,6 @@
 -- Channels one after the other: what changes nothing, and four unsplit ones side by side, are the cases of the definition. Assumes nothing.
 use mathlib.Core.Path.{_≡_, refl, ap, _∙_}
-use mathlib.Core.Bool.{Bool, true, false, cond, _&&_}
+use mathlib.Core.Bool.{Bool, true, false, cond}
 use mathlib.Core.List.{List}
 use Prim.Native.Nat.{ℕ, zero, suc, _+_, _-_, _*_, _<_, _≤_}
 use native.Mathlib.Numerals.{add-one}
@@ -12,15 +12,12 @@ use lib.ListN.{length}
 use Rattle.complex.specs.declared.Complex.{Complex}
 use Rattle.layout.specs.declared.Layout.{Layout}
 use Rattle.layout.specs.Numbers.{splitOf, unsplitFromOf, channelsOf}
+use Rattle.lists.proofs.Alls.{both}
 use Rattle.ps_hybrid_synthesis.specs.Column.{written, column, cellAfter, there, rowsAfter, lanesAfter}
-use Rattle.ps_hybrid_synthesis.specs.Lanes.{on}
+use Rattle.planar.specs.Lanes.{on}
 use Rattle.ps_hybrid_synthesis.specs.Loops.{allUnsplit, fourPassed}
 use Rattle.ps_hybrid_synthesis.proofs.Columns.{written-length}
 use Rattle.ps_hybrid_synthesis.proofs.Ways.{as-passed, without-channel, without-room, with-both}
-
-pub both : (a b : Bool) → a && b ≡ true → (a ≡ true) × (b ≡ true)
-both true b e = (refl, e)
-both false b e = (e, cc)
 
 -- both tests hold
 pub both-unsplit : (l : Layout) (k : ℕ) → allUnsplit l k ≡ true → (unsplitFromOf l ≤ k) × (k + 4 ≤ channelsOf l)

@@ -13,8 +13,8 @@ use Rattle.layout.specs.Numbers.{splitOf, unsplitFromOf, channelsOf}
 use Rattle.lists.specs.Rows.{tabulate}
 use Rattle.planar.specs.Cells.{cell}
 use Rattle.standard.specs.Numbers.{nought}
-use Rattle.standard.specs.Hybrid.{bandBelow, spanOf}
-use Rattle.ps_hybrid_synthesis.specs.Lanes.{on}
+use Rattle.standard.specs.Hybrid.{bandBelow, firstChannelOf}
+use Rattle.planar.specs.Lanes.{on}
 
 -- ---- a column that is written
 
@@ -47,7 +47,7 @@ module _ (l : Layout) (k : ℕ) (channel : ℕ → Complex) (rows : List Float) 
   -- what stands in slot n of the column after channel k
   abbrev pub cellAfter : ℕ → Complex
   cellAfter n =
-      cond (ltb k (unsplitFromOf l)) (cond (eqb k (spanOf l (column l k))) (started channel n) (added channel rows (column l k) n)) (channel n)
+      cond (ltb k (unsplitFromOf l)) (cond (eqb k (firstChannelOf l (column l k))) (started channel n) (added channel rows (column l k) n)) (channel n)
 
   -- the channel is one of the layout's, and the rows have room for the slots
   abbrev pub there : ℕ → Bool

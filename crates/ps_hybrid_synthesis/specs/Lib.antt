@@ -1,4 +1,3 @@
 pub mod Column
-pub mod Lanes
 pub mod Loops
 pub mod Rising

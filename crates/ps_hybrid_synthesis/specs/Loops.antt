@@ -10,10 +10,10 @@ use Rattle.complex.specs.declared.Complex.{Complex}
 use Rattle.complex.specs.Operations.{sum}
 use Rattle.layout.specs.declared.Layout.{Layout}
 use Rattle.layout.specs.Numbers.{splitOf, unsplitFromOf, channelsOf}
-use Rattle.standard.specs.Hybrid.{bandBelow, spanOf}
+use Rattle.standard.specs.Hybrid.{bandBelow, firstChannelOf}
 use Rattle.ps_hybrid_synthesis.specs.declared.Band.{Band}
 use Rattle.ps_hybrid_synthesis.specs.Column.{written}
-use Rattle.ps_hybrid_synthesis.specs.Lanes.{on}
+use Rattle.planar.specs.Lanes.{on}
 
 -- the rows have the column, and the slots
 pub record Room (column slots : ℕ) (rows : List Float) : Type 0 where
@@ -24,7 +24,7 @@ pub record Room (column slots : ℕ) (rows : List Float) : Type 0 where
 -- the split band of channel k, with its first channel
 pub record InBand (l : Layout) (k : ℕ) (band : Band) : Type 0 where
   pub column : band .column ≡ bandBelow l k (splitOf l - 1)
-  pub first : band .first ≡ spanOf l (bandBelow l k (splitOf l - 1))
+  pub first : band .first ≡ firstChannelOf l (bandBelow l k (splitOf l - 1))
   pub small : band .column < 64
 
 -- the four channels from k on are unsplit ones of the layout

@@ -10,13 +10,13 @@ use Rattle.complex.specs.declared.Complex.{Complex}
 use Rattle.layout.specs.declared.Layout.{Layout}
 use Rattle.layout.specs.Numbers.{splitOf, unsplitFromOf}
 use Rattle.planar.specs.Frame.{qmfAt}
-use Rattle.standard.specs.Hybrid.{spanOf, addedTo}
+use Rattle.standard.specs.Hybrid.{firstChannelOf, addedTo}
 
 -- what stands in QMF band q of a slot once its channels below k have come: the sum so far, or what stood there before the first one
 unfoldable pub columnTo : Layout → (ℕ → Complex) → Complex → ℕ → ℕ → Complex
 columnTo l y before k q =
     cond (ltb q (splitOf l))
-    (cond (leb k (spanOf l q)) before (addedTo y (spanOf l q) (min k (spanOf l (suc q)) - spanOf l q)))
+    (cond (leb k (firstChannelOf l q)) before (addedTo y (firstChannelOf l q) (min k (firstChannelOf l (suc q)) - firstChannelOf l q)))
     (cond (ltb (q + unsplitFromOf l - splitOf l) k) (y (q + unsplitFromOf l - splitOf l)) before)
 
 -- the rows of a frame, where slot n of channel k is y n k

@@ -2,7 +2,7 @@
 ghost use mathlib.Core.Path.{_≡_};
 ghost use Prim.Native.Nat.{_+_};
 ghost use Rattle.ps_hybrid_synthesis.specs.Column.{written, started, added};
-ghost use Rattle.ps_hybrid_synthesis.specs.Lanes.{on};
+ghost use Rattle.planar.specs.Lanes.{on};
 ghost use Rattle.ps_hybrid_synthesis.specs.Loops.{Room, fourPassed, fourSummed};
 
 // Channels that are their bands, which stand side by side.

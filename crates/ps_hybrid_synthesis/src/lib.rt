@@ -10,19 +10,13 @@ ghost use Prim.Native.Nat.{_+_, _-_, _*_, _<_, _≤_, min};
 ghost use lib.ListN.{length};
 ghost use Rattle.layout.specs.Numbers.{channelsOf, splitOf, unsplitFromOf};
 ghost use Rattle.ps_hybrid_synthesis.specs.Column.{written, started, added, rowsAfter, lanesAfter};
-ghost use Rattle.ps_hybrid_synthesis.specs.Lanes.{on};
+ghost use Rattle.planar.specs.Lanes.{on};
 ghost use Rattle.ps_hybrid_synthesis.specs.Loops.{Room, InBand, allUnsplit, oneBand};
 
 // A split QMF band and the first of its channels.
 struct Band {
     column: usize,
     first: usize,
-}
-
-fn least(a: usize, b: usize) -> usize
-    ensures { λ r. ⌜ r ≡ min a b ⌝ }
-{
-    if a < b { a } else { b }
 }
 
 fn band_of_20(k: usize) -> Band
@@ -254,7 +248,7 @@ pub fn synthesise(
     if layout.channels() <= k {
         return;
     }
-    let count = least(slots, 32);
+    let count = limits::least(slots, 32);
     if rows.len() < 128 * count {
         return;
     }

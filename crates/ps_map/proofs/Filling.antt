@@ -6,9 +6,9 @@ use native.Mathlib.Numerals.{add-one}
 use native.Mathlib.Omega.{arith}
 use lib.ListN.{length, take, drop, getD, set, replicate, length-map, length-replicate, drop-of-length-le}
 use lib.Seq.{drop-cons, getD-take, length-take-le}
-use Rattle.lists.specs.Held.{held}
+use Rattle.lists.specs.Padded.{padded}
 use Rattle.lists.proofs.Fills.{Filled, filled-none, filled-more, filled-all}
-use Rattle.lists.proofs.Held.{held-front}
+use Rattle.lists.proofs.Padded.{padded-front}
 
 module _ {A B : Type 0} where
   -- i of the first `count` elements are written
@@ -28,8 +28,8 @@ module _ {A B : Type 0} where
         rw (drop-cons (take count table) i d long, getD-take count table i d h, add-one, e) in
         record { stored = r .stored; room = r .room; filled = filled-more (r .filled) v next (rw length-replicate (omega (arith, r .room))) }
 
-    pub brought-all : count ≤ i → l ≡ held n z (map f (take count table))
+    pub brought-all : count ≤ i → l ≡ padded n z (map f (take count table))
     brought-all h =
         let long : length (take count table) ≡ count = length-take-le count table (r .stored) in
         let none : drop i (take count table) ≡ [] = drop-of-length-le (take count table) {i = i} (rw long h) in
-        filled-all (rw none at (r .filled)) ∙ sym (held-front z n (map f (take count table)) (rw (length-map, long) (r .room)))
+        filled-all (rw none at (r .filled)) ∙ sym (padded-front z n (map f (take count table)) (rw (length-map, long) (r .room)))

@@ -7,9 +7,9 @@ use native.Mathlib.Omega.{arith}
 use lib.Dec.{T, ltb, ltb→lt, nltb→le}
 use lib.ListN.{length, getD, replicate, List·getD-eq-default}
 use lib.Seq.{getD-take, ext-getD}
-use Rattle.lists.specs.Held.{held}
+use Rattle.lists.specs.Padded.{padded}
 use Rattle.lists.specs.Rows.{tabulate}
-use Rattle.lists.proofs.Held.{held-length}
+use Rattle.lists.proofs.Padded.{padded-length}
 use Rattle.lists.proofs.Maps.{tabulate-length, tabulate-at}
 
 module _ {A : Type 0} (z : A) where
@@ -20,23 +20,23 @@ module _ {A : Type 0} (z : A) where
   padded-at (x ∷ v) m zero = refl
   padded-at (x ∷ v) m (suc i) = padded-at v m i
 
-  reads : (n : ℕ) (v : List A) (i : ℕ) → i < n → getD (held n z v) i z ≡ getD v i z
+  reads : (n : ℕ) (v : List A) (i : ℕ) → i < n → getD (padded n z v) i z ≡ getD v i z
   reads n v i h = getD-take n (v ++ replicate n z) i z h ∙ padded-at v n i
 
   -- the row is written place by place
-  pub held-places : (n : ℕ) (v : List A) → tabulate (λ i. getD v i z) n ≡ held n z v
+  pub held-places : (n : ℕ) (v : List A) → tabulate (λ i. getD v i z) n ≡ padded n z v
   held-places n v =
-      ext-getD z (tabulate (λ i. getD v i z) n) (held n z v) (tabulate-length (λ i. getD v i z) n ∙ sym (held-length z n v))
+      ext-getD z (tabulate (λ i. getD v i z) n) (padded n z v) (tabulate-length (λ i. getD v i z) n ∙ sym (padded-length z n v))
       (λ i h. let u : i < n = (rw tabulate-length at h) in tabulate-at (λ j. getD v j z) n i z u ∙ sym (reads n v i u))
 
   -- zeros between a row and the end change nothing
-  pub held-twice : (n m : ℕ) (v : List A) → length v ≤ m → held n z (held m z v) ≡ held n z v
+  pub held-twice : (n m : ℕ) (v : List A) → length v ≤ m → padded n z (padded m z v) ≡ padded n z v
   held-twice n m v h =
-      ext-getD z (held n z (held m z v)) (held n z v) (held-length z n (held m z v) ∙ sym (held-length z n v))
-      (λ i u. let l : i < n = (rw held-length at u) in reads n (held m z v) i l ∙ anywhere i (ltb i m) (ltb→lt i m) (nltb→le i m) ∙ sym (reads n v i l))
+      ext-getD z (padded n z (padded m z v)) (padded n z v) (padded-length z n (padded m z v) ∙ sym (padded-length z n v))
+      (λ i u. let l : i < n = (rw padded-length at u) in reads n (padded m z v) i l ∙ anywhere i (ltb i m) (ltb→lt i m) (nltb→le i m) ∙ sym (reads n v i l))
     where
-      anywhere : (i : ℕ) (t : Bool) → (T t → i < m) → (T (not t) → m ≤ i) → getD (held m z v) i z ≡ getD v i z
+      anywhere : (i : ℕ) (t : Bool) → (T t → i < m) → (T (not t) → m ≤ i) → getD (padded m z v) i z ≡ getD v i z
       anywhere i true a b = reads m v i (a tt)
       anywhere i false a b =
           let past : m ≤ i = b tt in
-          List·getD-eq-default (held m z v) z {n = i} (rw held-length past) ∙ sym (List·getD-eq-default v z {n = i} (omega arith))
+          List·getD-eq-default (padded m z v) z {n = i} (rw padded-length past) ∙ sym (List·getD-eq-default v z {n = i} (omega arith))

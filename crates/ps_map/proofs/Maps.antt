@@ -10,7 +10,7 @@ use lib.Seq.{take-take, take-at}
 use Rattle.layout.specs.declared.Layout.{Layout}
 use Rattle.layout.specs.declared.Layout.the-variants.{Bands20, Bands34}
 use Rattle.layout.specs.Numbers.{bandsOf}
-use Rattle.ps_map.specs.Maps.{indexFrom, duplicated, mapRow, heldRow}
+use Rattle.ps_map.specs.Maps.{indexFrom, duplicated, mapRow, paddedRow}
 use Rattle.ps_map.specs.Tables.{sourcesOf}
 use Rattle.ps_map.proofs.Duplicates.{duplicated-length}
 
@@ -34,7 +34,7 @@ module _ (v : List ℤ) where
   ten-by-twenty Bands34 h ne = rw h
 
   -- the 20 places that 10 numbers take, each twice
-  pub first-twenty : length v ≡ 10 → take 20 (heldRow (duplicated v)) ≡ duplicated v
+  pub first-twenty : length v ≡ 10 → take 20 (paddedRow (duplicated v)) ≡ duplicated v
   first-twenty h =
       let long : length (duplicated v) ≡ 20 = duplicated-length v ∙ ap (λ (n : ℕ). 2 * n) h in
       take-take 20 34 (duplicated v ++ replicate 34 (pos 0)) (omega arith) ∙ take-at (duplicated v) (replicate 34 (pos 0)) 20 long

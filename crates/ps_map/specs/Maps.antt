@@ -8,7 +8,7 @@ use lib.IntN.{ℤ, pos, _+ℤ_, _*ℤ_}
 use lib.Ieee.{Float, binary64, add, mul, div, ofInt}
 use lib.ListN.{length, getD}
 use Rattle.integers.specs.Integers.{toZero}
-use Rattle.lists.specs.Held.{held}
+use Rattle.lists.specs.Padded.{padded}
 use Rattle.layout.specs.declared.Layout.{Layout}
 use Rattle.layout.specs.declared.Layout.the-variants.{Bands20, Bands34}
 use Rattle.layout.specs.Numbers.{bandsOf}
@@ -45,12 +45,12 @@ mapRow v layout =
     fromTen v Bands34 = map (indexFrom (duplicated v)) (sourcesOf Bands34)
 
 -- the 34 places that hold a row: zeros after it
-abbrev pub heldRow : List ℤ → List ℤ
-heldRow v = held 34 (pos 0) v
+abbrev pub paddedRow : List ℤ → List ℤ
+paddedRow v = padded 34 (pos 0) v
 
 -- a row of phases extended with zeros, or cut, to a length
 abbrev pub extendedTo : ℕ → List ℤ → List ℤ
-extendedTo n v = held n (pos 0) v
+extendedTo n v = padded n (pos 0) v
 
 -- ---- coefficients
 
@@ -70,6 +70,6 @@ coefficientFrom v (Avg4 i j k l) =
 coefficientFrom v (W21 i j) = div binary64 (add binary64 (mul binary64 (whole 2) (coefficientAt v i)) (coefficientAt v j)) (whole 3)
 coefficientFrom v (W12 i j) = div binary64 (add binary64 (coefficientAt v i) (mul binary64 (whole 2) (coefficientAt v j))) (whole 3)
 
--- held coefficients brought to a layout from the other one, in 34 places: zeros after them
+-- padded coefficients brought to a layout from the other one, in 34 places: zeros after them
 unfoldable pub mapCoefficients : List Float → Layout → List Float
-mapCoefficients v layout = held 34 (whole 0) (map (coefficientFrom v) (sourcesOf layout))
+mapCoefficients v layout = padded 34 (whole 0) (map (coefficientFrom v) (sourcesOf layout))

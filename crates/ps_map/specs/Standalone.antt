@@ -15,7 +15,7 @@ use Rattle.layout.specs.declared.Layout.the-variants.{Bands20, Bands34}
 use Rattle.ps_map.specs.declared.Mapping.{Mapping}
 use Rattle.ps_map.specs.declared.Mapping.the-variants.{Bands, Refused}
 use Rattle.ps_map.specs.declared.Mapped.{Mapped}
-use Rattle.ps_map.specs.Maps.{mapRow, heldRow}
+use Rattle.ps_map.specs.Maps.{mapRow, paddedRow}
 
 -- the answer of mapping: 0 where the row is mapped
 abbrev pub answerOf : Mapping → Answer
@@ -29,11 +29,11 @@ abbrev pub valueFits : ℤ → Bool
 valueFits z = cond (ltZ z (negsuc 14)) false (not (ltZ (pos 15) z))
 
 abbrev pub refused : Answer → Mapped
-refused answer = record { mapping = Refused answer; row = heldRow [] }
+refused answer = record { mapping = Refused answer; row = paddedRow [] }
 
 -- lengths and target are right
 unfoldable pub byValues : List ℤ → Layout → ℕ → Mapped
-byValues v layout target = cond (all valueFits v) (record { mapping = Bands target; row = heldRow (mapRow v layout) }) (refused Field)
+byValues v layout target = cond (all valueFits v) (record { mapping = Bands target; row = paddedRow (mapRow v layout) }) (refused Field)
 
 unfoldable pub mapIndices : List ℤ → ℕ → Mapped
 mapIndices v target =

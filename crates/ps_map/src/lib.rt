@@ -11,7 +11,7 @@ ghost use Prim.Native.Nat.{_≤_};
 ghost use lib.ListN.{length};
 ghost use Rattle.lists.specs.All.{all};
 ghost use Rattle.ps_map.specs.Bands.{parameterMap, conjugatedOf};
-ghost use Rattle.ps_map.specs.Maps.{indexFrom, duplicated, mapRow, heldRow, extendedTo, mapCoefficients};
+ghost use Rattle.ps_map.specs.Maps.{indexFrom, duplicated, mapRow, paddedRow, extendedTo, mapCoefficients};
 ghost use Rattle.ps_map.specs.Standalone.{answerOf, lengthFits, valueFits, refused, byValues, mapIndices};
 ghost use Rattle.ps_map.specs.Tables.{sourcesOf};
 
@@ -60,7 +60,7 @@ pub fn conjugated(layout: Layout, channel: usize) -> bool
 
 // A row in 34 places: its first 34 numbers, zeros after them.
 fn copied(v: &[i8]) -> [i8; 34]
-    ensures { λ r. ⌜ r ≡ heldRow (now (v .entry)) ⌝ }
+    ensures { λ r. ⌜ r ≡ paddedRow (now (v .entry)) ⌝ }
 {
     let mut out = [0i8; 34];
     let mut i = 0;
@@ -74,7 +74,7 @@ fn copied(v: &[i8]) -> [i8; 34]
 // From 10 to 20: each number twice.
 fn doubled(v: &[i8]) -> [i8; 34]
     requires { ⌜ length (now v) ≤ 17 ⌝ }
-    ensures { λ r. ⌜ r ≡ heldRow (duplicated (now (v .entry))) ⌝ }
+    ensures { λ r. ⌜ r ≡ paddedRow (duplicated (now (v .entry))) ⌝ }
 {
     let mut out = [0i8; 34];
     let mut i = 0;
@@ -88,7 +88,7 @@ fn doubled(v: &[i8]) -> [i8; 34]
 
 // To a layout's bands from those of the other layout.
 fn from_other(v: &[i8], layout: Layout) -> [i8; 34]
-    ensures { λ r. ⌜ r ≡ heldRow (map (indexFrom (now (v .entry))) (sourcesOf layout)) ⌝ }
+    ensures { λ r. ⌜ r ≡ paddedRow (map (indexFrom (now (v .entry))) (sourcesOf layout)) ⌝ }
 {
     let table = sources::sources(layout);
     let bands = layout.bands();
@@ -96,7 +96,7 @@ fn from_other(v: &[i8], layout: Layout) -> [i8; 34]
     let mut i = 0;
     while i < bands {
         let source = table[i];
-        out[i] = source.index(v);
+        out[i] = sources::index_of(source, v);
         i += 1;
     }
     out
@@ -104,7 +104,7 @@ fn from_other(v: &[i8], layout: Layout) -> [i8; 34]
 
 // A row of 10, 20 or 34 indices for the bands of a layout.
 pub fn map_row(v: &[i8], layout: Layout) -> [i8; 34]
-    ensures { λ r. ⌜ r ≡ heldRow (mapRow (now (v .entry)) layout) ⌝ }
+    ensures { λ r. ⌜ r ≡ paddedRow (mapRow (now (v .entry)) layout) ⌝ }
 {
     let count = v.len();
     let bands = layout.bands();
@@ -123,7 +123,7 @@ pub fn map_row(v: &[i8], layout: Layout) -> [i8; 34]
 
 // The first numbers of a row, up to a length of at most 34, zeros after them.
 pub fn extended(v: &[i8], length: usize) -> [i8; 34]
-    ensures { λ r. ⌜ r ≡ heldRow (extendedTo length (now (v .entry))) ⌝ }
+    ensures { λ r. ⌜ r ≡ paddedRow (extendedTo length (now (v .entry))) ⌝ }
 {
     if v.len() <= length {
         return copied(v);
@@ -224,7 +224,7 @@ pub fn map_coefficients(v: [f64; 34], layout: Layout) -> [f64; 34]
     let mut i = 0;
     while i < bands {
         let source = table[i];
-        out[i] = source.coefficient(&v);
+        out[i] = sources::coefficient_of(source, &v);
         i += 1;
     }
     out

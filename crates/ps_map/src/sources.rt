@@ -135,22 +135,21 @@ fn mean_second_twice(a: i8, b: i8) -> i8
     ((x + 2 * y) / 3) as i8
 }
 
-impl MapSrc {
-    pub fn index(self, v: &[i8]) -> i8
-        ensures { λ r. ⌜ r ≡ indexFrom (now (v .entry)) self ⌝ }
-    {
-        match self {
-            MapSrc::Single(i) => index_at(v, i),
-            MapSrc::Avg(i, j) => mean_of_two(index_at(v, i), index_at(v, j)),
-            MapSrc::Avg4(i, j, k, l) => mean_of_four(
-                index_at(v, i),
-                index_at(v, j),
-                index_at(v, k),
-                index_at(v, l),
-            ),
-            MapSrc::W21(i, j) => mean_first_twice(index_at(v, i), index_at(v, j)),
-            MapSrc::W12(i, j) => mean_second_twice(index_at(v, i), index_at(v, j)),
-        }
+// The index that a source makes.
+pub fn index_of(source: MapSrc, v: &[i8]) -> i8
+    ensures { λ r. ⌜ r ≡ indexFrom (now (v .entry)) source ⌝ }
+{
+    match source {
+        MapSrc::Single(i) => index_at(v, i),
+        MapSrc::Avg(i, j) => mean_of_two(index_at(v, i), index_at(v, j)),
+        MapSrc::Avg4(i, j, k, l) => mean_of_four(
+            index_at(v, i),
+            index_at(v, j),
+            index_at(v, k),
+            index_at(v, l),
+        ),
+        MapSrc::W21(i, j) => mean_first_twice(index_at(v, i), index_at(v, j)),
+        MapSrc::W12(i, j) => mean_second_twice(index_at(v, i), index_at(v, j)),
     }
 }
 
@@ -161,20 +160,19 @@ fn coefficient_at(v: &[f64], band: usize) -> f64
     if band < v.len() { v[band] } else { 0.0 }
 }
 
-impl MapSrc {
-    pub fn coefficient(self, v: &[f64]) -> f64
-        ensures { λ r. ⌜ r ≡ coefficientFrom (now (v .entry)) self ⌝ }
-    {
-        match self {
-            MapSrc::Single(i) => coefficient_at(v, i),
-            MapSrc::Avg(i, j) => (coefficient_at(v, i) + coefficient_at(v, j)) / 2.0,
-            MapSrc::Avg4(i, j, k, l) => (coefficient_at(v, i)
-                + coefficient_at(v, j)
-                + coefficient_at(v, k)
-                + coefficient_at(v, l))
-                / 4.0,
-            MapSrc::W21(i, j) => (2.0 * coefficient_at(v, i) + coefficient_at(v, j)) / 3.0,
-            MapSrc::W12(i, j) => (coefficient_at(v, i) + 2.0 * coefficient_at(v, j)) / 3.0,
-        }
+// The coefficient that a source makes.
+pub fn coefficient_of(source: MapSrc, v: &[f64]) -> f64
+    ensures { λ r. ⌜ r ≡ coefficientFrom (now (v .entry)) source ⌝ }
+{
+    match source {
+        MapSrc::Single(i) => coefficient_at(v, i),
+        MapSrc::Avg(i, j) => (coefficient_at(v, i) + coefficient_at(v, j)) / 2.0,
+        MapSrc::Avg4(i, j, k, l) => (coefficient_at(v, i)
+            + coefficient_at(v, j)
+            + coefficient_at(v, k)
+            + coefficient_at(v, l))
+            / 4.0,
+        MapSrc::W21(i, j) => (2.0 * coefficient_at(v, i) + coefficient_at(v, j)) / 3.0,
+        MapSrc::W12(i, j) => (coefficient_at(v, i) + 2.0 * coefficient_at(v, j)) / 3.0,
     }
 }

@@ -23,7 +23,7 @@ fresh-kept asked h k =
       fewest = h;
       most = k;
       shape = shaped-fresh asked;
-      indices = record { iid = none-kept; icc = none-kept; ipd = none-kept; opd = none-kept };
+      rows = record { iid = none-kept; icc = none-kept; ipd = none-kept; opd = none-kept };
       phases = narrow-zeros 136;
     }
 
@@ -45,7 +45,7 @@ module _ (s : PsDecoder) (c : Call) (kept : StateKept s) where
   cue-small : (e b : ℕ) → SmallCue (frameOf (playingOf s) c .cue e b)
   unfolding frameOf playingOf cueAt
   cue-small e b =
-      let line = line-kept (s .indices) (kept .indices) (c .line) in
+      let line = line-kept (s .lines) (kept .rows) (c .line) in
       let l = layout (playingOf s) c in
       let config = header (playingOf s) c .config in
       record {
@@ -69,7 +69,7 @@ module _ (s : PsDecoder) (c : Call) (kept : StateKept s) where
         fewest = subst (λ (n : ℕ). 6 ≤ n) (sym asked) (kept .fewest);
         most = subst (λ (n : ℕ). n ≤ 32) (sym asked) (kept .most);
         shape = shaped-stored made next (shaped-readied s (layout (playingOf s) c) (c .edge) (kept .shape));
-        indices = line-kept (s .indices) (kept .indices) (c .line) .state;
+        rows = line-kept (s .lines) (kept .rows) (c .line) .rows;
         phases =
             stereo-narrow (next .core .layout) (next .core .kept) (made .stereo)
             (next-small (coreOf s) core-small (frameOf (playingOf s) c) cue-small)

@@ -1,76 +1,97 @@
 -- Parts that are stored from the last to the first leave the image. Assumes nothing.
 use mathlib.Core.Path.{_≡_, refl, sym, ap, ap₂, _∙_}
-use mathlib.Core.List.{List, [], _∷_, _++_}
-use Prim.Native.Nat.{ℕ}
+use mathlib.Core.List.{List, [], _∷_, _++_, append-nil}
+use Prim.Native.Nat.{ℕ, zero, _+_, _≤_, _<_}
 use native.Mathlib.Omega.{arith}
-use lib.ListN.{length, drop, set, length-set}
-use lib.Seq.{sets-eq, drop-length, take-suc-set}
+use lib.ListN.{length, take, drop, set}
+use lib.Seq.{sets, sets-eq, drop-length}
 use lib.Ieee.{Float}
-use Rattle.exact_numbers.specs.Numbers.{keptNumber}
+use Rattle.exact_numbers.specs.Numbers.{keptNumber, keptFlag}
 use Rattle.lists.specs.Part.{part, put}
 use Rattle.lists.proofs.Parts.{part-length, placed, tail-back}
-use Rattle.ps_data.specs.declared.PsIndexState.{PsIndexState}
+use Rattle.ps_data.specs.declared.PsLines.{PsLines}
 use Rattle.ps_decorr.specs.declared.PsDecorr.{PsDecorr}
 use Rattle.ps_rows.specs.declared.Row.{Row}
 use Rattle.ps_state.specs.declared.PsDecoder.{PsDecoder}
 use Rattle.ps_stereo.specs.declared.PsStereo.{PsStereo}
 use Rattle.ps_memory.specs.Packed.{packed}
-use Rattle.ps_memory.specs.Place.{headImage, rowImage, indicesImage, decorrImage, stereoImage, soundImage, image}
+use Rattle.ps_memory.specs.Place.{headLong, rowLong, linesLong, historyLong, decorrLong, stereoLong, soundLong, linesAt, historyAt, numbers, headImage, rowPlace, rowImage, linesImage, decorrImage, stereoImage, soundImage, image}
 
--- four stores into four places
-pub four : (m : List Float) (a b c d : Float) → length m ≡ 4 → set (set (set (set m 0 a) 1 b) 2 c) 3 d ≡ a ∷ b ∷ c ∷ d ∷ []
-four m a b c d l =
-    sets-eq (a ∷ b ∷ c ∷ d ∷ []) m 0 (omega arith) ∙ ap (λ (t : List Float). a ∷ b ∷ c ∷ d ∷ t) (ap (λ (n : ℕ). drop n m) (sym l) ∙ drop-length m)
+-- ---- any parts
 
-pub row-laid : (r : Row) (m q : List Float) (v : Float) → length m ≡ 18 → v ≡ keptNumber (r .used) → q ≡ packed (length (part 1 17 (set m 0 v))) (r .at)
-    → put 1 17 (set m 0 v) q ≡ rowImage r
+-- a part to store, and how many places are its
+record Piece : Type 0 where
+  long : ℕ
+  now : List Float
+
+abbrev piece : ℕ → List Float → Piece
+piece n q = record { long = n; now = q }
+
+abbrev total : List Piece → ℕ
+total [] = 0
+total (p ∷ ps) = p .long + total ps
+
+abbrev joined : Piece → List Piece → List Float
+joined p [] = p .now
+joined p (q ∷ ps) = p .now ++ joined q ps
+
+-- from place a on, the last first
+abbrev puts : ℕ → List Piece → List Float → List Float
+puts a [] m = m
+puts a (p ∷ ps) m = put a (p .long) (puts (a + p .long) ps m) (p .now)
+
+laid : (a : ℕ) (p : Piece) (ps : List Piece) (m : List Float) → length m ≡ a + (p .long + total ps) → puts a (p ∷ ps) m ≡ take a m ++ joined p ps
+laid a p [] m l = tail-back a (p .long) m (p .now) (omega arith)
+laid a p (q ∷ ps) m l =
+    placed m _ (joined q ps) (p .now) a (p .long) (a + p .long) (laid (a + p .long) q ps m (omega arith)) refl (omega arith)
+
+-- a single number before them, stored last
+headed : (v : Float) (p : Piece) (ps : List Piece) (m : List Float) → length m ≡ 1 + (p .long + total ps) → set (puts 1 (p ∷ ps) m) 0 v ≡ v ∷ joined p ps
+headed v p ps m l = ap (λ (t : List Float). set t 0 v) (laid 1 p ps m l) ∙ first m (omega arith)
+  where
+    first : (n : List Float) → 0 < length n → set (take 1 n ++ joined p ps) 0 v ≡ v ∷ joined p ps
+    first [] h = absurd (omega arith)
+    first (x ∷ n) h = refl
+
+-- as many single numbers as there are places
+pub all-set : (vs m : List Float) → length m ≡ length vs → sets m 0 vs ≡ vs
+all-set vs m l =
+    let whole : 0 + length vs ≡ length m = omega arith in
+    sets-eq vs m 0 (omega arith) ∙ ap (λ (t : List Float). vs ++ t) (ap (λ (n : ℕ). drop n m) whole ∙ drop-length m) ∙ append-nil vs
+
+-- ---- the parts of a state
+
+pub row-laid : (r : Row) (m q : List Float) (v : Float) → length m ≡ rowLong → v ≡ keptNumber (r .used) → q ≡ packed (length (part 1 17 m)) (r .at)
+    → set (put 1 17 m q) 0 v ≡ rowImage r
 unfolding rowImage
-row-laid r m q v l e f =
-    let long = part-length 1 17 (set m 0 v) (omega (arith, length-set m 0 v)) in
-    tail-back 1 17 (set m 0 v) q (omega (arith, length-set m 0 v))
-    ∙ ap (λ (t : List Float). t ++ q) (take-suc-set m 0 v (omega arith))
-    ∙ ap₂ (λ (x : Float) (t : List Float). x ∷ t) e (f ∙ ap (λ (n : ℕ). packed n (r .at)) long)
+row-laid r m q v l e f = headed v (piece 17 q) [] m l ∙ rw (e, f, part-length 1 17 m (omega arith))
 
-pub indices-laid : (s : PsIndexState) (m a b c d : List Float) → length m ≡ 72
-    → a ≡ rowImage (s .iid) → b ≡ rowImage (s .icc) → c ≡ rowImage (s .ipd) → d ≡ rowImage (s .opd)
-    → put 0 18 (put 18 18 (put 36 18 (put 54 18 m d) c) b) a ≡ indicesImage s
-unfolding indicesImage
-indices-laid s m a b c d l ea eb ec ed =
-    let opd = tail-back 54 18 m d (omega arith) in
-    let ipd = placed m _ d c 36 18 54 opd refl (omega arith) in
-    let icc = placed m _ (c ++ d) b 18 18 36 ipd refl (omega arith) in
-    placed m _ (b ++ (c ++ d)) a 0 18 18 icc refl (omega arith) ∙ rw (ea, eb, ec, ed)
+pub lines-laid : (s : PsLines) (m a b c d : List Float) (v : Float) → length m ≡ linesLong → v ≡ keptFlag (s .configured)
+    → a ≡ rowImage (s .rows .iid) → b ≡ rowImage (s .rows .icc) → c ≡ rowImage (s .rows .ipd) → d ≡ rowImage (s .rows .opd)
+    → set (put (rowPlace 0) rowLong (put (rowPlace 1) rowLong (put (rowPlace 2) rowLong (put (rowPlace 3) rowLong m d) c) b) a) 0 v ≡ linesImage s
+unfolding linesImage
+lines-laid s m a b c d v l ev ea eb ec ed =
+    headed v (piece rowLong a) (piece rowLong b ∷ piece rowLong c ∷ piece rowLong d ∷ []) m l ∙ rw (ev, ea, eb, ec, ed)
 
-pub decorr-laid : (s : PsDecorr) (m a b c d : List Float) → length m ≡ 1896 → a ≡ s .delays → b ≡ s .long → c ≡ s .short → d ≡ s .detectors
+pub decorr-laid : (s : PsDecorr) (m a b c d : List Float) → length m ≡ decorrLong → a ≡ s .delays → b ≡ s .long → c ≡ s .short → d ≡ s .detectors
     → put 0 1400 (put 1400 336 (put 1736 58 (put 1794 102 m d) c) b) a ≡ decorrImage s
 unfolding decorrImage
-decorr-laid s m a b c d l ea eb ec ed =
-    let detectors = tail-back 1794 102 m d (omega arith) in
-    let short = placed m _ d c 1736 58 1794 detectors refl (omega arith) in
-    let long = placed m _ (c ++ d) b 1400 336 1736 short refl (omega arith) in
-    placed m _ (b ++ (c ++ d)) a 0 1400 1400 long refl (omega arith) ∙ rw (ea, eb, ec, ed)
+decorr-laid s m a b c d l ea eb ec ed = laid 0 (piece 1400 a) (piece 336 b ∷ piece 58 c ∷ piece 102 d ∷ []) m l ∙ rw (ea, eb, ec, ed)
 
-pub stereo-laid : (s : PsStereo) (m a b : List Float) → length m ≡ 340 → a ≡ s .matrices → b ≡ packed (length (part 272 68 m)) (s .phases)
+pub stereo-laid : (s : PsStereo) (m a b : List Float) → length m ≡ stereoLong → a ≡ s .matrices → b ≡ packed (length (part 272 68 m)) (s .phases)
     → put 0 272 (put 272 68 m b) a ≡ stereoImage s
 unfolding stereoImage
-stereo-laid s m a b l ea eb =
-    placed m _ b a 0 272 272 (tail-back 272 68 m b (omega arith)) refl (omega arith)
-    ∙ ap₂ (λ (x y : List Float). x ++ y) ea (eb ∙ ap (λ (n : ℕ). packed n (s .phases)) (part-length 272 68 m (omega arith)))
+stereo-laid s m a b l ea eb = laid 0 (piece 272 a) (piece 68 b ∷ []) m l ∙ rw (ea, eb, part-length 272 68 m (omega arith))
 
-pub sound-laid : (history : List Float) (decorr : PsDecorr) (stereo : PsStereo) (m a b c : List Float) → length m ≡ 2296
+pub sound-laid : (history : List Float) (decorr : PsDecorr) (stereo : PsStereo) (m a b c : List Float) → length m ≡ soundLong
     → a ≡ history → b ≡ decorrImage decorr → c ≡ stereoImage stereo
-    → put 0 60 (put 60 1896 (put 1956 340 m c) b) a ≡ soundImage history decorr stereo
+    → put 0 historyLong (put historyLong decorrLong (put (historyLong + decorrLong) stereoLong m c) b) a ≡ soundImage history decorr stereo
 unfolding soundImage
 sound-laid history decorr stereo m a b c l ea eb ec =
-    let mixing = tail-back 1956 340 m c (omega arith) in
-    let delayed = placed m _ c b 60 1896 1956 mixing refl (omega arith) in
-    placed m _ (b ++ c) a 0 60 60 delayed refl (omega arith) ∙ rw (ea, eb, ec)
+    laid 0 (piece historyLong a) (piece decorrLong b ∷ piece stereoLong c ∷ []) m l ∙ rw (ea, eb, ec)
 
-pub whole-laid : (s : PsDecoder) (m a b c : List Float) → length m ≡ 2372 → a ≡ headImage (s .layout) (s .configured) (s .cued) (s .asked)
-    → b ≡ indicesImage (s .indices) → c ≡ soundImage (s .history) (s .decorr) (s .stereo)
-    → put 0 4 (put 4 72 (put 76 2296 m c) b) a ≡ image s
+pub whole-laid : (s : PsDecoder) (m a b c : List Float) → length m ≡ numbers → a ≡ headImage (s .layout) (s .cued) (s .asked)
+    → b ≡ linesImage (s .lines) → c ≡ soundImage (s .history) (s .decorr) (s .stereo)
+    → put 0 headLong (put linesAt linesLong (put historyAt soundLong m c) b) a ≡ image s
 unfolding image
-whole-laid s m a b c l ea eb ec =
-    let sound = tail-back 76 2296 m c (omega arith) in
-    let indices = placed m _ c b 4 72 76 sound refl (omega arith) in
-    placed m _ (b ++ c) a 0 4 4 indices refl (omega arith) ∙ rw (ea, eb, ec)
+whole-laid s m a b c l ea eb ec = laid 0 (piece headLong a) (piece linesLong b ∷ piece soundLong c ∷ []) m l ∙ rw (ea, eb, ec)

@@ -11,13 +11,13 @@ use lib.ListN.{length, replicate}
 use lib.Signed.{mag}
 use Rattle.calls.specs.Cues.{indicesOf, envelopeRow, mappedPhases}
 use Rattle.cue.specs.declared.Config.{Config}
-use Rattle.cue.specs.Fields.{byMode}
+use Rattle.cue.specs.Fields.{parametersOf}
 use Rattle.integers.specs.Integers.{toZero}
 use Rattle.integers.proofs.Sizes.{mag-add, mag-scaled}
 use Rattle.integers.proofs.Quotients.{quot-is, small}
 use Rattle.layout.specs.declared.Layout.{Layout}
 use Rattle.layout.specs.Numbers.{bandsOf}
-use Rattle.lists.specs.Held.{held}
+use Rattle.lists.specs.Padded.{padded}
 use Rattle.ps_map.specs.declared.MapSrc.{MapSrc}
 use Rattle.ps_map.specs.declared.MapSrc.the-variants.{Single, Avg, Avg4, W21, W12}
 use Rattle.ps_map.specs.Maps.{indexAt, indexFrom, duplicated, mapRow, extendedTo}
@@ -66,7 +66,7 @@ duplicated-narrow (z ∷ v) n =
     narrow-more z (z ∷ duplicated v) (n .at 0)
     (narrow-more z (duplicated v) (n .at 0) (duplicated-narrow v (record { at = λ i. n .at (suc i) })))
 
-held-narrow : (n : ℕ) (v : List ℤ) → Narrow v → Narrow (held n (pos 0) v)
+held-narrow : (n : ℕ) (v : List ℤ) → Narrow v → Narrow (padded n (pos 0) v)
 held-narrow n v h = narrow-take n (v ++ replicate n (pos 0)) (narrow-append v (replicate n (pos 0)) h (narrow-zeros n))
 
 module _ (v : List ℤ) (l : Layout) (narrow : Narrow v) where
@@ -89,7 +89,7 @@ module _ (v : List ℤ) (l : Layout) (narrow : Narrow v) where
 pub phases-narrow : (l : Layout) (config : Config) (kind : Rows) (e : ℕ) → RowsNarrow kind → Narrow (mappedPhases l config kind e)
 unfolding mappedPhases
 phases-narrow l config kind e narrow =
-    let n = byMode (config .iid .mode) 10 20 34 in
+    let n = parametersOf (config .iid) in
     let row = envelopeRow kind e in
     let v = indicesOf row in
     held-narrow 34 (mapRow (extendedTo n v) l) (row-narrow (extendedTo n v) l (held-narrow n v (narrow-take (min (row .used) 34) (row .at) (narrow .at e))))

@@ -1,21 +1,21 @@
 -- Indices that fit an i8: lists of them, and that they are unpacked as they were packed. Assumes nothing.
-use mathlib.Core.Path.{_≡_, refl, sym, ap, ap₂, _∙_}
+use mathlib.Core.Path.{_≡_, sym, ap, ap₂, _∙_}
 use mathlib.Core.Bool.{Bool, true, false, cond}
 use mathlib.Core.List.{List, [], _∷_, _++_}
 use Prim.Native.Nat.{ℕ, zero, suc, _+_, _*_, _<_}
 use native.Mathlib.Numerals.{add-one}
 use native.Mathlib.Omega.{arith}
 use lib.IntN.{ℤ, pos}
-use lib.Ieee.{Float, nan}
+use lib.Ieee.{nan}
 use lib.ListN.{length, take, drop, getD, replicate}
 use lib.Seq.{drop-cons}
 use lib.Signed.{mag}
 use Rattle.exact_numbers.specs.Numbers.{keptPair}
-use Rattle.exact_numbers.proofs.Back.{first-back, second-back, first-small, second-small}
+use Rattle.exact_numbers.proofs.Back.{first-back, second-back}
 use Rattle.lists.specs.Part.{part}
 use Rattle.lists.specs.Rows.{rows}
 use Rattle.lists.proofs.Maps.{tabulate-length, tabulate-at}
-use Rattle.lists.proofs.Rows.{rows-same, rows-length, rows-whole}
+use Rattle.lists.proofs.Rows.{rows-same, rows-whole}
 use Rattle.ps_memory.specs.Packed.{packed, both, unpacked}
 use Rattle.ps_memory.specs.Shape.{Narrow}
 
@@ -53,18 +53,6 @@ pub narrow-take : (n : ℕ) (v : List ℤ) → Narrow v → Narrow (take n v)
 narrow-take zero v h = narrow-none
 narrow-take (suc n) [] h = narrow-none
 narrow-take (suc n) (z ∷ v) h = narrow-more z (take n v) (h .at 0) (narrow-take n v (record { at = λ i. h .at (suc i) }))
-
--- ---- any floats unpack to small numbers
-
-pub unpacked-narrow : (n : ℕ) (m : List Float) → Narrow (unpacked n m)
-unfolding unpacked
-unpacked-narrow n m =
-    narrow-rows (λ i. both (getD m i nan)) n
-    (λ k. narrow-more _ _ (first-small (getD m k nan)) (narrow-more _ _ (second-small (getD m k nan)) narrow-none))
-
-pub unpacked-length : (n : ℕ) (m : List Float) → length (unpacked n m) ≡ n * 2
-unfolding unpacked
-unpacked-length n m = rows-length (λ i. both (getD m i nan)) 2 n (λ k u. refl)
 
 -- ---- what is packed
 

@@ -1,9 +1,6 @@
 -- Where the parts of a state lie in lent memory, what any memory reads as, and what a state is written as.
---   0 layout (1 where 34 bands)   1 configured   2 cued   3 slots   4 indices   76 history   136 de-correlation   2032 mixing   2372 the end
---   indices: iid, icc, ipd, opd at 0, 18, 36, 54, each its count and its 34 places in 17 floats
---   de-correlation: all-pass channels 0, long delays 1400, short ones 1736, detectors 1794; mixing: coefficients 0, phases 272 in 68 floats
 -- Assumes nothing.
-use Prim.Native.Nat.{ℕ}
+use Prim.Native.Nat.{ℕ, _+_, _*_}
 use mathlib.Core.List.{List, [], _∷_, _++_}
 use mathlib.Core.Bool.{Bool, true, false, cond}
 use lib.Dec.{eqb}
@@ -15,13 +12,59 @@ use Rattle.layout.specs.declared.Layout.{Layout}
 use Rattle.layout.specs.declared.Layout.the-variants.{Bands20, Bands34}
 use Rattle.lists.specs.Part.{part}
 use Rattle.ps_data.specs.declared.PsIndexState.{PsIndexState}
+use Rattle.ps_data.specs.declared.PsLines.{PsLines}
 use Rattle.ps_decorr.specs.declared.PsDecorr.{PsDecorr}
 use Rattle.ps_rows.specs.declared.Row.{Row}
 use Rattle.ps_state.specs.declared.PsCarried.{PsCarried}
 use Rattle.ps_state.specs.declared.PsDecoder.{PsDecoder}
-use Rattle.ps_state.specs.State.{decoderOf, freshDecoder}
+use Rattle.ps_state.specs.State.{carriedOf, decoderOf, freshDecoder}
 use Rattle.ps_stereo.specs.declared.PsStereo.{PsStereo}
 use Rattle.ps_memory.specs.Packed.{packed, unpacked}
+
+-- ---- places
+
+-- layout (1 where 34 bands), cued, slots
+abbrev pub headLong : ℕ
+headLong = 3
+
+-- a kept row: its count, and its 34 places in 17 floats
+abbrev pub rowLong : ℕ
+rowLong = 18
+
+-- what the lines have left: configured, then the rows of IID, ICC, IPD and OPD
+abbrev pub linesLong : ℕ
+linesLong = 1 + 4 * rowLong
+
+-- the hybrid filters' history
+abbrev pub historyLong : ℕ
+historyLong = 60
+
+-- de-correlation: all-pass channels at 0, long delays at 1400, short ones at 1736, detectors at 1794
+abbrev pub decorrLong : ℕ
+decorrLong = 1896
+
+-- mixing: coefficients at 0, phases at 272 in 68 floats
+abbrev pub stereoLong : ℕ
+stereoLong = 340
+
+abbrev pub soundLong : ℕ
+soundLong = historyLong + decorrLong + stereoLong
+
+abbrev pub linesAt : ℕ
+linesAt = headLong
+
+abbrev pub historyAt : ℕ
+historyAt = linesAt + linesLong
+
+abbrev pub decorrAt : ℕ
+decorrAt = historyAt + historyLong
+
+abbrev pub stereoAt : ℕ
+stereoAt = decorrAt + decorrLong
+
+-- how many numbers a state takes
+abbrev pub numbers : ℕ
+numbers = stereoAt + stereoLong
 
 -- ---- single numbers
 
@@ -36,10 +79,10 @@ wide Bands34 = true
 abbrev pub slotsIn : Float → ℕ
 slotsIn x = slotsOf (numberIn 32 x)
 
-unfoldable pub headImage : Layout → Bool → Bool → ℕ → List Float
-headImage layout configured cued asked = keptFlag (wide layout) ∷ keptFlag configured ∷ keptFlag cued ∷ keptNumber (slotsOf asked) ∷ []
+unfoldable pub headImage : Layout → Bool → ℕ → List Float
+headImage layout cued asked = keptFlag (wide layout) ∷ keptFlag cued ∷ keptNumber (slotsOf asked) ∷ []
 
--- ---- the rows kept
+-- ---- what the lines have left
 
 unfoldable pub rowOf : List Float → Row
 rowOf m = record { at = unpacked 17 (part 1 17 m); used = numberIn 34 (getD m 0 nan) }
@@ -47,11 +90,23 @@ rowOf m = record { at = unpacked 17 (part 1 17 m); used = numberIn 34 (getD m 0 
 unfoldable pub rowImage : Row → List Float
 rowImage r = keptNumber (r .used) ∷ packed 17 (r .at)
 
-unfoldable pub indicesOf : List Float → PsIndexState
-indicesOf m = record { iid = rowOf (part 0 18 m); icc = rowOf (part 18 18 m); ipd = rowOf (part 36 18 m); opd = rowOf (part 54 18 m) }
+-- the kept rows stand behind the flag
+abbrev pub rowPlace : ℕ → ℕ
+rowPlace i = 1 + i * rowLong
 
-unfoldable pub indicesImage : PsIndexState → List Float
-indicesImage s = rowImage (s .iid) ++ (rowImage (s .icc) ++ (rowImage (s .ipd) ++ rowImage (s .opd)))
+abbrev pub rowAt : ℕ → List Float → List Float
+rowAt i m = part (rowPlace i) rowLong m
+
+unfoldable pub linesOf : List Float → PsLines
+linesOf m =
+    record {
+      configured = flagIn (getD m 0 nan);
+      rows = record { iid = rowOf (rowAt 0 m); icc = rowOf (rowAt 1 m); ipd = rowOf (rowAt 2 m); opd = rowOf (rowAt 3 m) };
+    }
+
+unfoldable pub linesImage : PsLines → List Float
+linesImage s =
+    keptFlag (s .configured) ∷ (rowImage (s .rows .iid) ++ (rowImage (s .rows .icc) ++ (rowImage (s .rows .ipd) ++ rowImage (s .rows .opd))))
 
 -- ---- sound
 
@@ -75,33 +130,27 @@ soundImage history decorr stereo = history ++ (decorrImage decorr ++ stereoImage
 -- the memory of a state
 unfoldable pub image : PsDecoder → List Float
 image s =
-    headImage (s .layout) (s .configured) (s .cued) (s .asked) ++ (indicesImage (s .indices) ++ soundImage (s .history) (s .decorr) (s .stereo))
+    headImage (s .layout) (s .cued) (s .asked) ++ (linesImage (s .lines) ++ soundImage (s .history) (s .decorr) (s .stereo))
 
--- the state that 2,372 numbers hold
+-- the state that a memory holds
 unfoldable pub loaded : List Float → PsDecoder
 loaded m =
     record {
-      asked = slotsIn (getD m 3 nan);
+      asked = slotsIn (getD m 2 nan);
       layout = layoutIn (getD m 0 nan);
-      configured = flagIn (getD m 1 nan);
-      cued = flagIn (getD m 2 nan);
-      indices = indicesOf (part 4 72 m);
-      history = part 76 60 m;
-      decorr = decorrIn (part 136 1896 m);
-      stereo = stereoOf (part 2032 340 m);
+      cued = flagIn (getD m 1 nan);
+      lines = linesOf (part linesAt linesLong m);
+      history = part historyAt historyLong m;
+      decorr = decorrIn (part decorrAt decorrLong m);
+      stereo = stereoOf (part stereoAt stereoLong m);
     }
-
--- what is small in a state
-abbrev pub carriedOf : PsDecoder → PsCarried
-carriedOf s =
-    record { asked = s .asked; layout = s .layout; configured = s .configured; cued = s .cued; indices = s .indices; stereo = s .stereo }
 
 abbrev pub freshCarried : PsCarried
 freshCarried = carriedOf (freshDecoder 32)
 
 -- loaded over five arrays of sound: a memory of another length leaves them, with what is small in a fresh decoder, and is left as it is
 unfoldable pub loadOver : List Float → List Float → List Float → List Float → List Float → List Float → PsDecoder
-loadOver m history delays long short detectors = cond (eqb (length m) 2372) (loaded m) (decoderOf freshCarried history delays long short detectors)
+loadOver m history delays long short detectors = cond (eqb (length m) numbers) (loaded m) (decoderOf freshCarried history delays long short detectors)
 
 unfoldable pub storedIn : PsDecoder → List Float → List Float
-storedIn s m = cond (eqb (length m) 2372) (image s) m
+storedIn s m = cond (eqb (length m) numbers) (image s) m

@@ -29,5 +29,5 @@ pub record StateKept (s : PsDecoder) : Type 0 where
   pub fewest : 6 ≤ s .asked
   pub most : s .asked ≤ 32
   pub shape : Shaped s
-  pub indices : IndicesKept (s .indices)
+  pub rows : IndicesKept (s .lines .rows)
   pub phases : Narrow (s .stereo .phases)

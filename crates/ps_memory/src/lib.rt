@@ -1,19 +1,30 @@
 // A decoder's whole state in lent memory, a run of floats, between calls. Any memory of the right length is a state.
-mod indices;
+mod lines;
 mod sound;
 
 use layout::Layout;
 use ps_state::PsCarried;
 ghost use mathlib.Core.Path.{_≡_};
 ghost use lib.ListN.{length};
-ghost use Rattle.ps_state.specs.State.{decoderOf};
-ghost use Rattle.ps_memory.specs.Place.{layoutIn, wide, slotsIn, headImage, carriedOf, freshCarried, loaded, image, loadOver, storedIn};
+ghost use Rattle.ps_state.specs.State.{carriedOf, decoderOf};
+ghost use Rattle.ps_memory.specs.Place.{numbers, headLong, layoutIn, wide, slotsIn, headImage, freshCarried, loaded, image, loadOver, storedIn};
+
+// The places of specs/Place: layout, cued and slots, then what the lines have left, then the sound.
+const LINES: usize = 3;
+
+const HISTORY: usize = LINES + lines::LONG;
+
+const DECORR: usize = HISTORY + sound::HISTORY_LONG;
+
+const STEREO: usize = DECORR + sound::DECORR_LONG;
+
+pub const NUMBERS: usize = STEREO + sound::STEREO_LONG;
 
 // How many numbers a state takes.
 pub fn numbers() -> usize
-    ensures { λ r. ⌜ r ≡ 2372 ⌝ }
+    ensures { λ r. ⌜ r ≡ numbers ⌝ }
 {
-    2372
+    NUMBERS
 }
 
 fn layout_in(x: f64) -> Layout
@@ -35,15 +46,14 @@ fn is_wide(layout: Layout) -> bool
     }
 }
 
-// The four single numbers. The slots are kept as they act, 6 to 32.
-fn store_head(layout: Layout, configured: bool, cued: bool, asked: usize, to: &mut [f64])
-    requires { ⌜ length (now to) ≡ 4 ⌝ }
-    ensures { λ _. ⌜ now (to .exit) ≡ headImage layout configured cued asked ⌝ }
+// The single numbers. The slots are kept as they act, 6 to 32.
+fn store_head(layout: Layout, cued: bool, asked: usize, to: &mut [f64])
+    requires { ⌜ length (now to) ≡ headLong ⌝ }
+    ensures { λ _. ⌜ now (to .exit) ≡ headImage layout cued asked ⌝ }
 {
     to[0] = exact_numbers::kept_flag(is_wide(layout));
-    to[1] = exact_numbers::kept_flag(configured);
-    to[2] = exact_numbers::kept_flag(cued);
-    to[3] = exact_numbers::kept_number(borders::slots(asked) as u16);
+    to[1] = exact_numbers::kept_flag(cued);
+    to[2] = exact_numbers::kept_number(borders::slots(asked) as u16);
 }
 
 fn slots_in(x: f64) -> usize
@@ -54,16 +64,15 @@ fn slots_in(x: f64) -> usize
 
 // What is small in the state that a memory holds, and in a fresh one.
 fn load_carried(memory: &[f64]) -> PsCarried
-    requires { ⌜ length (now memory) ≡ 2372 ⌝ }
+    requires { ⌜ length (now memory) ≡ numbers ⌝ }
     ensures { λ r. ⌜ r ≡ carriedOf (loaded (now (memory .entry))) ⌝ }
 {
     PsCarried {
-        asked: slots_in(memory[3]),
+        asked: slots_in(memory[2]),
         layout: layout_in(memory[0]),
-        configured: exact_numbers::flag(memory[1]),
-        cued: exact_numbers::flag(memory[2]),
-        indices: indices::load_indices(&memory[4..76]),
-        stereo: sound::load_stereo(&memory[2032..2372]),
+        cued: exact_numbers::flag(memory[1]),
+        lines: lines::load(&memory[LINES..HISTORY]),
+        stereo: sound::load_stereo(&memory[STEREO..NUMBERS]),
     }
 }
 
@@ -73,9 +82,8 @@ fn fresh_carried() -> PsCarried
     PsCarried {
         asked: 32,
         layout: Layout::Bands20,
-        configured: false,
         cued: false,
-        indices: ps_data::fresh(),
+        lines: ps_data::fresh(),
         stereo: ps_stereo::fresh(),
     }
 }
@@ -92,11 +100,11 @@ pub fn load(
     ensures { λ r. ⌜ decoderOf r (now (history .exit)) (now (delays .exit)) (now (long .exit)) (now (short .exit)) (now (detectors .exit))
         ≡ loadOver (now (memory .entry)) (now (history .entry)) (now (delays .entry)) (now (long .entry)) (now (short .entry)) (now (detectors .entry)) ⌝ }
 {
-    if memory.len() != 2372 {
+    if memory.len() != NUMBERS {
         return fresh_carried();
     }
-    sound::copy(&memory[76..136], history);
-    sound::load_decorr(&memory[136..2032], delays, long, short, detectors);
+    sound::copy(&memory[HISTORY..DECORR], history);
+    sound::load_decorr(&memory[DECORR..STEREO], delays, long, short, detectors);
     load_carried(memory)
 }
 
@@ -109,7 +117,7 @@ fn store_whole(
     detectors: &[f64; 102],
     memory: &mut [f64],
 )
-    requires { ⌜ length (now memory) ≡ 2372 ⌝ }
+    requires { ⌜ length (now memory) ≡ numbers ⌝ }
     ensures { λ _. ⌜ now (memory .exit)
         ≡ image (decoderOf carried (now (history .entry)) (now (delays .entry)) (now (long .entry)) (now (short .entry)) (now (detectors .entry))) ⌝ }
 {
@@ -121,18 +129,12 @@ fn store_whole(
         short,
         detectors,
         stereo,
-        &mut memory[76..2372],
+        &mut memory[HISTORY..NUMBERS],
     );
-    let indices = carried.indices;
-    indices::store_indices(indices, &mut memory[4..76]);
+    let lines = carried.lines;
+    lines::store(lines, &mut memory[LINES..HISTORY]);
     let layout = carried.layout;
-    store_head(
-        layout,
-        carried.configured,
-        carried.cued,
-        carried.asked,
-        &mut memory[0..4],
-    );
+    store_head(layout, carried.cued, carried.asked, &mut memory[0..LINES]);
 }
 
 // Makes memory that of a state; a memory of another length is left as it is.
@@ -149,7 +151,7 @@ pub fn store(
         ≡ storedIn (decoderOf carried (now (history .entry)) (now (delays .entry)) (now (long .entry)) (now (short .entry)) (now (detectors .entry)))
         (now (memory .entry)) ⌝ }
 {
-    if memory.len() == 2372 {
+    if memory.len() == NUMBERS {
         store_whole(carried, history, delays, long, short, detectors, memory);
     }
 }

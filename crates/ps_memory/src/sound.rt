@@ -1,10 +1,20 @@
 // The numbers of sound in lent memory: histories, delays, detectors and coefficients, each as it is.
-use super::indices;
+use super::lines;
 use ps_stereo::PsStereo;
 ghost use mathlib.Core.Path.{_≡_};
 ghost use lib.ListN.{length};
 ghost use Rattle.ps_decorr.specs.State.{decorrOf};
-ghost use Rattle.ps_memory.specs.Place.{decorrIn, decorrImage, stereoOf, stereoImage, soundImage};
+ghost use Rattle.ps_memory.specs.Place.{decorrLong, stereoLong, soundLong, decorrIn, decorrImage, stereoOf, stereoImage, soundImage};
+
+pub const HISTORY_LONG: usize = 60;
+
+pub const DECORR_LONG: usize = 1896;
+
+pub const STEREO_LONG: usize = 340;
+
+const STEREO: usize = HISTORY_LONG + DECORR_LONG;
+
+const LONG: usize = STEREO + STEREO_LONG;
 
 pub fn copy(from: &[f64], to: &mut [f64])
     requires { ⌜ length (now from) ≡ length (now to) ⌝ }
@@ -25,7 +35,7 @@ pub fn load_decorr(
     short: &mut [f64; 58],
     detectors: &mut [f64; 102],
 )
-    requires { ⌜ length (now from) ≡ 1896 ⌝ }
+    requires { ⌜ length (now from) ≡ decorrLong ⌝ }
     ensures { λ _. ⌜ decorrOf (now (delays .exit)) (now (long .exit)) (now (short .exit)) (now (detectors .exit)) ≡ decorrIn (now (from .entry)) ⌝ }
 {
     copy(&from[0..1400], delays);
@@ -41,7 +51,7 @@ fn store_decorr(
     detectors: &[f64; 102],
     to: &mut [f64],
 )
-    requires { ⌜ length (now to) ≡ 1896 ⌝ }
+    requires { ⌜ length (now to) ≡ decorrLong ⌝ }
     ensures { λ _. ⌜ now (to .exit) ≡ decorrImage (decorrOf (now (delays .entry)) (now (long .entry)) (now (short .entry)) (now (detectors .entry))) ⌝ }
 {
     copy(detectors, &mut to[1794..1896]);
@@ -51,13 +61,13 @@ fn store_decorr(
 }
 
 pub fn load_stereo(from: &[f64]) -> PsStereo
-    requires { ⌜ length (now from) ≡ 340 ⌝ }
+    requires { ⌜ length (now from) ≡ stereoLong ⌝ }
     ensures { λ r. ⌜ r ≡ stereoOf (now (from .entry)) ⌝ }
 {
     let mut matrices = [0.0; 272];
     copy(&from[0..272], &mut matrices);
     let mut phases = [0i8; 136];
-    indices::unpack(&from[272..340], &mut phases);
+    lines::unpack(&from[272..340], &mut phases);
     PsStereo {
         matrices: matrices,
         phases: phases,
@@ -65,10 +75,10 @@ pub fn load_stereo(from: &[f64]) -> PsStereo
 }
 
 fn store_stereo(stereo: PsStereo, to: &mut [f64])
-    requires { ⌜ length (now to) ≡ 340 ⌝ }
+    requires { ⌜ length (now to) ≡ stereoLong ⌝ }
     ensures { λ _. ⌜ now (to .exit) ≡ stereoImage stereo ⌝ }
 {
-    indices::pack(&stereo.phases, &mut to[272..340]);
+    lines::pack(&stereo.phases, &mut to[272..340]);
     copy(&stereo.matrices, &mut to[0..272]);
 }
 
@@ -81,11 +91,17 @@ pub fn store_sound(
     stereo: PsStereo,
     to: &mut [f64],
 )
-    requires { ⌜ length (now to) ≡ 2296 ⌝ }
+    requires { ⌜ length (now to) ≡ soundLong ⌝ }
     ensures { λ _. ⌜ now (to .exit)
         ≡ soundImage (now (history .entry)) (decorrOf (now (delays .entry)) (now (long .entry)) (now (short .entry)) (now (detectors .entry))) stereo ⌝ }
 {
-    store_stereo(stereo, &mut to[1956..2296]);
-    store_decorr(delays, long, short, detectors, &mut to[60..1956]);
-    copy(history, &mut to[0..60]);
+    store_stereo(stereo, &mut to[STEREO..LONG]);
+    store_decorr(
+        delays,
+        long,
+        short,
+        detectors,
+        &mut to[HISTORY_LONG..STEREO],
+    );
+    copy(history, &mut to[0..HISTORY_LONG]);
 }

@@ -6,24 +6,25 @@ use native.Mathlib.Omega.{arith}
 use lib.IntN.{ℤ, pos}
 use lib.ListN.{length, take, getD, replicate, length-map, length-replicate, replicate-append-replicate}
 use lib.Seq.{take-at}
+use Rattle.limits.specs.Limits as limits
 use Rattle.lists.proofs.Fills.{Filled, filled-all}
-use Rattle.lists.proofs.Held.{held-front, held-take}
+use Rattle.lists.proofs.Padded.{padded-front, padded-take}
 use Rattle.ps_rows.specs.declared.Row.{Row}
 use Rattle.ps_rows.specs.declared.Rows.{Rows}
-use Rattle.ps_rows.specs.Rows.{heldRow, heldRows}
+use Rattle.ps_rows.specs.Rows.{paddedRow, paddedRows}
 
 -- ---- a row, and rows, when the loop that fills their places is done
-pub held-row : {row l : List ℤ} {i : ℕ} (n : ℕ) → Filled [] row (replicate 34 (pos 0)) l i → length row ≡ n → n ≤ 34 → _≡_ {A = Row} (record { at = l; used = n }) (heldRow row)
-held-row {row} n f e h = rw (← e, filled-all f, ← held-front (pos 0) 34 row (rw e h))
+pub held-row : {row l : List ℤ} {i : ℕ} (n : ℕ) → Filled [] row (replicate 34 (pos 0)) l i → length row ≡ n → n ≤ 34 → _≡_ {A = Row} (record { at = l; used = n }) (paddedRow row)
+held-row {row} n f e h = rw (← e, filled-all f, ← padded-front (pos 0) 34 row (rw e h))
 
-pub held-rows : (rows : List (List ℤ)) {l : List Row} {i : ℕ} (n : ℕ) → Filled [] (map heldRow rows) (replicate 4 (heldRow [])) l i → length rows ≡ n → n ≤ 4 → _≡_ {A = Rows} (record { row = l; used = n }) (heldRows rows)
+pub held-rows : (rows : List (List ℤ)) {l : List Row} {i : ℕ} (n : ℕ) → Filled [] (map paddedRow rows) (replicate limits.envelopes (paddedRow [])) l i → length rows ≡ n → n ≤ limits.envelopes → _≡_ {A = Rows} (record { row = l; used = n }) (paddedRows rows)
 held-rows rows n f e h =
-    let long : length (map heldRow rows) ≤ 4 = rw (length-map rows heldRow, e) h in
-    rw (← e, filled-all f, ← held-front (heldRow []) 4 (map heldRow rows) long)
+    let long : length (map paddedRow rows) ≤ limits.envelopes = rw (length-map rows paddedRow, e) h in
+    rw (← e, filled-all f, ← padded-front (paddedRow []) limits.envelopes (map paddedRow rows) long)
 
 -- ---- a row that is read back from its places
-pub read-back : (row : List ℤ) (n : ℕ) → length row ≡ n → n ≤ 34 → take n (heldRow row .at) ≡ row
-read-back row n e h = rw (← e) (held-take (pos 0) 34 row (rw e h))
+pub read-back : (row : List ℤ) (n : ℕ) → length row ≡ n → n ≤ 34 → take n (paddedRow row .at) ≡ row
+read-back row n e h = rw (← e) (padded-take (pos 0) 34 row (rw e h))
 
 module _ {A : Type 0} where
   -- a list that is padded reads past its end as the element that pads it

@@ -2,7 +2,7 @@
 use mathlib.Core.Path.{_≡_, refl, ap, _∙_}
 use mathlib.Core.Bool.{Bool, true, false, cond}
 use mathlib.Core.List.{List, [], _∷_, _++_, map}
-use Prim.Native.Nat.{ℕ, zero, suc, _+_, _-_, _%_, min}
+use Prim.Native.Nat.{ℕ, zero, suc, _-_, _%_, min}
 use native.Mathlib.Omega.{arith}
 use borrow.Author.Tests.{le-ltb}
 use lib.Dec.{eqb}
@@ -10,13 +10,14 @@ use lib.IntN.{ℤ, pos, negsuc, _+ℤ_}
 use lib.ListN.{length, take, drop, getD, replicate, length-append, length-replicate, List·getD-map}
 use lib.Seq.{length-take-le}
 use lib.Signed.{ltZ}
+use Rattle.limits.specs.Limits as limits
 use Rattle.integers.specs.Integers.{byteZ}
 use Rattle.integers.proofs.Ranges.{clamp-low, clamp-high, wrap-low}
 use Rattle.ps_rows.specs.declared.Kind.{Kind}
 use Rattle.ps_rows.specs.declared.Kind.the-variants.{Coarse, Fine, Coherence, Phase}
 use Rattle.ps_rows.specs.declared.Row.{Row}
 use Rattle.ps_rows.specs.Steps.{within, step}
-use Rattle.ps_rows.specs.Rows.{frequencyRow, timeRow, deltasOf, rowOf, rowsOf, heldRow, startOf, lastOf, resolveKind}
+use Rattle.ps_rows.specs.Rows.{frequencyRow, timeRow, deltasOf, rowOf, rowsOf, paddedRow, startOf, resolveKind}
 use Rattle.ps_rows.proofs.Places.{read-on}
 
 -- ---- lengths
@@ -124,29 +125,20 @@ front P z o (suc n) [] h i = o
 front P z o (suc n) (x ∷ l) h zero = h 0
 front P z o (suc n) (x ∷ l) h (suc i) = front P z o n l (λ j. h (suc j)) i
 
-held-in-range : (kind : Kind) (row : List ℤ) → AllInRange kind row → AllInRange kind (heldRow row .at)
+held-in-range : (kind : Kind) (row : List ℤ) → AllInRange kind row → AllInRange kind (paddedRow row .at)
 held-in-range kind row h =
     front (InRange kind) (pos 0) (zero-in-range kind) 34 (row ++ replicate 34 (pos 0)) (λ i. rw (read-on row 34 i (pos 0)) (h i))
 
-last-in-range : (kind : Kind) (kept : Row) (rows : List (List ℤ)) → AllInRange kind (kept .at) → ((e : ℕ) → AllInRange kind (getD rows e [])) → AllInRange kind (lastOf kept rows .at)
-last-in-range kind kept [] h r = h
-last-in-range kind kept (row ∷ rows) h r = last-in-range kind (heldRow row) rows (held-in-range kind row (r 0)) (λ e. r (suc e))
-
 module _ (kind : Kind) (kept : Row) (envelopes count : ℕ) (bytes : List ℕ) where
   abbrev rows : List (List ℤ)
-  rows = rowsOf kind (min count 34) (startOf kept (min count 34)) bytes (min envelopes 4)
+  rows = rowsOf kind (min count 34) (startOf kept (min count 34)) bytes (min envelopes limits.envelopes)
 
   in-range : (e : ℕ) → AllInRange kind (getD rows e [])
-  in-range = rows-in-range kind (min count 34) (startOf kept (min count 34)) bytes (min envelopes 4)
+  in-range = rows-in-range kind (min count 34) (startOf kept (min count 34)) bytes (min envelopes limits.envelopes)
 
   -- of a frame's rows, whatever the kept row was
-  pub resolved-in-range : (e : ℕ) → AllInRange kind (getD (resolveKind kind kept envelopes count bytes .rows .row) e (heldRow []) .at)
+  pub resolved-in-range : (e : ℕ) → AllInRange kind (getD (resolveKind kind kept envelopes count bytes .rows .row) e (paddedRow []) .at)
   unfolding resolveKind
   resolved-in-range =
-      front (λ (row : Row). AllInRange kind (row .at)) (heldRow []) (held-in-range kind [] (λ i. zero-in-range kind)) 4 (map heldRow rows ++ replicate 4 (heldRow []))
-      (λ e. rw (read-on (map heldRow rows) 4 e (heldRow []), List·getD-map heldRow rows e []) (held-in-range kind (getD rows e []) (in-range e)))
-
-  -- of the row that is kept, where the one before it was in range
-  pub kept-in-range : AllInRange kind (kept .at) → AllInRange kind (resolveKind kind kept envelopes count bytes .kept .at)
-  unfolding resolveKind
-  kept-in-range h = last-in-range kind kept rows h in-range
+      front (λ (row : Row). AllInRange kind (row .at)) (paddedRow []) (held-in-range kind [] (λ i. zero-in-range kind)) limits.envelopes (map paddedRow rows ++ replicate limits.envelopes (paddedRow []))
+      (λ e. rw (read-on (map paddedRow rows) limits.envelopes e (paddedRow []), List·getD-map paddedRow rows e []) (held-in-range kind (getD rows e []) (in-range e)))

@@ -11,7 +11,7 @@ use lib.Seq.{drop-drop, drop-cons, getD-take, getD-drop}
 use Rattle.ps_rows.specs.declared.Kind.{Kind}
 use Rattle.ps_rows.specs.declared.Row.{Row}
 use Rattle.ps_rows.specs.Steps.{step}
-use Rattle.ps_rows.specs.Rows.{frequencyRow, timeRow, deltasOf, rowOf, rowsOf, heldRow, lastOf}
+use Rattle.ps_rows.specs.Rows.{frequencyRow, timeRow, deltasOf, rowOf, rowsOf, paddedRow, lastOf}
 use Rattle.ps_rows.proofs.Places.{read-on, read-back}
 use Rattle.ps_rows.proofs.Ranges.{row-length}
 
@@ -56,12 +56,12 @@ module _ (kind : Kind) (count : ℕ) (old : List ℤ) (bytes : List ℕ) (place 
   abbrev row : List ℤ
   row = rowOf kind count old (drop place bytes)
 
-  next-row : e < limit → count ≤ 34 → left ≡ row ∷ left-after (heldRow row)
+  next-row : e < limit → count ≤ 34 → left ≡ row ∷ left-after (paddedRow row)
   unfolding rowsOf
   next-row inside few =
       let one-less : limit - e ≡ suc (limit - (e + 1)) = omega arith in
       rw (one-less, drop-drop (count + 1) place bytes, read-back row count (row-length kind count old (drop place bytes)) few)
 
   -- what fills the next place, and that the last row stays the same
-  pub rows-turn : e < limit → count ≤ 34 → (next : Row) → next ≡ heldRow row → (map heldRow left ≡ next ∷ map heldRow (left-after next)) × ((last : Row) → lastOf last left ≡ lastOf next (left-after next))
-  rows-turn inside few next is = (rw is (ap (map heldRow) (next-row inside few)), λ last. rw is (ap (lastOf last) (next-row inside few)))
+  pub rows-turn : e < limit → count ≤ 34 → (next : Row) → next ≡ paddedRow row → (map paddedRow left ≡ next ∷ map paddedRow (left-after next)) × ((last : Row) → lastOf last left ≡ lastOf next (left-after next))
+  rows-turn inside few next is = (rw is (ap (map paddedRow) (next-row inside few)), λ last. rw is (ap (lastOf last) (next-row inside few)))

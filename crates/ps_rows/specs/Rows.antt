@@ -5,7 +5,8 @@ use mathlib.Core.Bool.{cond}
 use lib.Dec.{eqb}
 use lib.IntN.{ℤ, pos}
 use lib.ListN.{length, replicate, take, drop, getD}
-use Rattle.lists.specs.Held.{held}
+use Rattle.limits.specs.Limits as limits
+use Rattle.lists.specs.Padded.{padded}
 use Rattle.ps_rows.specs.declared.Kind.{Kind}
 use Rattle.ps_rows.specs.declared.Row.{Row}
 use Rattle.ps_rows.specs.declared.Rows.{Rows}
@@ -27,7 +28,7 @@ timeRow kind (p ∷ old) (d ∷ deltas) = step kind p d ∷ timeRow kind old del
 
 -- the deltas after an envelope's time byte
 abbrev pub deltasOf : ℕ → List ℕ → List ℕ
-deltasOf count bytes = held count 0 (drop 1 bytes)
+deltasOf count bytes = padded count 0 (drop 1 bytes)
 
 -- an envelope: a byte 0 (frequency) or 1 (time), and its deltas
 unfoldable pub rowOf : Kind → ℕ → List ℤ → List ℕ → List ℤ
@@ -42,12 +43,12 @@ rowsOf kind count old bytes zero = []
 rowsOf kind count old bytes (suc envelopes) = rowOf kind count old bytes ∷ rowsOf kind count (rowOf kind count old bytes) (drop (count + 1) bytes) envelopes
 
 -- a row in its 34 places: zeros after it
-abbrev pub heldRow : List ℤ → Row
-heldRow row = record { at = held 34 (pos 0) row; used = length row }
+abbrev pub paddedRow : List ℤ → Row
+paddedRow row = record { at = padded 34 (pos 0) row; used = length row }
 
--- rows in their four places
-abbrev pub heldRows : List (List ℤ) → Rows
-heldRows rows = record { row = held 4 (heldRow []) (map heldRow rows); used = length rows }
+-- rows in a frame's places
+abbrev pub paddedRows : List (List ℤ) → Rows
+paddedRows rows = record { row = padded limits.envelopes (paddedRow []) (map paddedRow rows); used = length rows }
 
 -- the first envelope's time row starts from the kept row if its length is the count, otherwise from zeros
 abbrev pub startOf : Row → ℕ → List ℤ
@@ -56,12 +57,12 @@ startOf kept count = cond (eqb (kept .used) count) (take count (kept .at)) (repl
 -- the last envelope's row is kept; without envelopes the kept row stays
 abbrev pub lastOf : Row → List (List ℤ) → Row
 lastOf kept [] = kept
-lastOf kept (row ∷ rows) = lastOf (heldRow row) rows
+lastOf kept (row ∷ rows) = lastOf (paddedRow row) rows
 
 abbrev pub resolvedFrom : Row → List (List ℤ) → ResolvedKind
-resolvedFrom kept rows = record { rows = heldRows rows; kept = lastOf kept rows }
+resolvedFrom kept rows = record { rows = paddedRows rows; kept = lastOf kept rows }
 
--- at most four envelopes of at most 34 parameters
+-- at most so many envelopes, of at most 34 parameters
 unfoldable pub resolveKind : Kind → Row → ℕ → ℕ → List ℕ → ResolvedKind
 resolveKind kind kept envelopes count bytes =
-    resolvedFrom kept (rowsOf kind (min count 34) (startOf kept (min count 34)) bytes (min envelopes 4))
+    resolvedFrom kept (rowsOf kind (min count 34) (startOf kept (min count 34)) bytes (min envelopes limits.envelopes))

@@ -3,10 +3,10 @@ mod steps;
 
 ghost use mathlib.Core.Path.{_≡_};
 ghost use mathlib.Core.List.{[]};
-ghost use Prim.Native.Nat.{_+_, _≤_, min};
+ghost use Prim.Native.Nat.{_+_, _≤_};
 ghost use lib.IntN.{pos};
 ghost use lib.ListN.{take, drop, getD};
-ghost use Rattle.ps_rows.specs.Rows.{frequencyRow, timeRow, deltasOf, rowOf, heldRow, heldRows, startOf, resolveKind};
+ghost use Rattle.ps_rows.specs.Rows.{frequencyRow, timeRow, deltasOf, rowOf, paddedRow, paddedRows, startOf, resolveKind};
 
 pub enum Kind {
     // IID by the default quantiser, and by the fine one.
@@ -24,9 +24,9 @@ pub struct Row {
     pub used: u16,
 }
 
-// The rows of a frame, one for each envelope: the first `used` of four places.
+// The rows of a frame, one for each envelope: the first `used` of its places.
 pub struct Rows {
-    pub row: [Row; 4],
+    pub row: [Row; limits::ENVELOPES],
     pub used: u16,
 }
 
@@ -37,7 +37,7 @@ pub struct ResolvedKind {
 }
 
 pub fn no_row() -> Row
-    ensures { λ r. ⌜ r ≡ heldRow [] ⌝ }
+    ensures { λ r. ⌜ r ≡ paddedRow [] ⌝ }
 {
     Row {
         at: [0i8; 34],
@@ -46,11 +46,11 @@ pub fn no_row() -> Row
 }
 
 pub fn no_rows() -> Rows
-    ensures { λ r. ⌜ r ≡ heldRows [] ⌝ }
+    ensures { λ r. ⌜ r ≡ paddedRows [] ⌝ }
 {
     let none = no_row();
     Rows {
-        row: [none; 4],
+        row: [none; limits::ENVELOPES],
         used: 0,
     }
 }
@@ -65,7 +65,7 @@ fn byte_at(bytes: &[u8], place: usize) -> u8
 // A row over frequency, whose time byte stands at a place.
 fn frequency_row(kind: Kind, count: usize, bytes: &[u8], place: usize) -> Row
     requires { ⌜ (count ≤ 34) × (place ≤ 65536) ⌝ }
-    ensures { λ r. ⌜ r ≡ heldRow (frequencyRow kind (pos 0) (deltasOf count (drop place (now (bytes .entry))))) ⌝ }
+    ensures { λ r. ⌜ r ≡ paddedRow (frequencyRow kind (pos 0) (deltasOf count (drop place (now (bytes .entry))))) ⌝ }
 {
     let mut at = [0i8; 34];
     let mut previous: i8 = 0;
@@ -84,7 +84,7 @@ fn frequency_row(kind: Kind, count: usize, bytes: &[u8], place: usize) -> Row
 // A row over time, whose time byte stands at a place.
 fn time_row(kind: Kind, count: usize, old: [i8; 34], bytes: &[u8], place: usize) -> Row
     requires { ⌜ (count ≤ 34) × (place ≤ 65536) ⌝ }
-    ensures { λ r. ⌜ r ≡ heldRow (timeRow kind (take count old) (deltasOf count (drop place (now (bytes .entry))))) ⌝ }
+    ensures { λ r. ⌜ r ≡ paddedRow (timeRow kind (take count old) (deltasOf count (drop place (now (bytes .entry))))) ⌝ }
 {
     let mut at = [0i8; 34];
     let mut b = 0;
@@ -101,7 +101,7 @@ fn time_row(kind: Kind, count: usize, old: [i8; 34], bytes: &[u8], place: usize)
 // One envelope's row, from its place in the bytes.
 fn envelope_row(kind: Kind, count: usize, old: [i8; 34], bytes: &[u8], place: usize) -> Row
     requires { ⌜ (count ≤ 34) × (place ≤ 65536) ⌝ }
-    ensures { λ r. ⌜ r ≡ heldRow (rowOf kind count (take count old) (drop place (now (bytes .entry)))) ⌝ }
+    ensures { λ r. ⌜ r ≡ paddedRow (rowOf kind count (take count old) (drop place (now (bytes .entry)))) ⌝ }
 {
     if byte_at(bytes, place) == 1 {
         time_row(kind, count, old, bytes, place)
@@ -119,13 +119,7 @@ fn start(kept: Row, count: usize) -> [i8; 34]
     if used == count { kept.at } else { [0i8; 34] }
 }
 
-fn least(a: usize, b: usize) -> usize
-    ensures { λ r. ⌜ r ≡ min a b ⌝ }
-{
-    if a < b { a } else { b }
-}
-
-// The rows of at most four envelopes of at most 34 parameters. Bytes past the end are 0.
+// The rows of a frame's envelopes, of at most 34 parameters. Bytes past the end are 0.
 pub fn resolve_kind(
     kind: Kind,
     kept: Row,
@@ -135,10 +129,10 @@ pub fn resolve_kind(
 ) -> ResolvedKind
     ensures { λ r. ⌜ r ≡ resolveKind kind kept envelopes count (now (bytes .entry)) ⌝ }
 {
-    let parameters = least(count, 34);
-    let limit = least(envelopes, 4);
+    let parameters = limits::least(count, 34);
+    let limit = limits::least(envelopes, limits::ENVELOPES);
     let none = no_row();
-    let mut row = [none; 4];
+    let mut row = [none; limits::ENVELOPES];
     let mut old = start(kept, parameters);
     let mut last = kept;
     let mut place = 0;

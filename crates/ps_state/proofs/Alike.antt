@@ -14,6 +14,7 @@ use Rattle.complex.specs.declared.Complex.{Complex}
 use Rattle.layout.specs.declared.Layout.{Layout}
 use Rattle.layout.specs.declared.Layout.the-variants.{Bands20, Bands34}
 use Rattle.layout.specs.Numbers.{splitOf, bandsOf, channelsOf, allPassOf, shortDelayOf}
+use Rattle.layout.proofs.Bounds.{bounds}
 use Rattle.lists.proofs.Maps.{tabulate-same}
 use Rattle.lists.proofs.Rows.{rows-same}
 use Rattle.planar.specs.Cells.{overwritten}
@@ -55,16 +56,13 @@ reach-short Bands20 j = rw (le-ltb (42 + j) 30 (omega arith), le-ltb (42 + j) 42
 reach-short Bands34 j = rw (le-ltb (62 + j) 50 (omega arith), le-ltb (62 + j) 62 (omega arith))
 
 chain-inside : (l : Layout) (k : ℕ) → k < allPassOf l → k < channelsOf l
-chain-inside Bands20 k u = omega arith
-chain-inside Bands34 k u = omega arith
+chain-inside l k u = let b = bounds l in omega arith
 
 pub long-inside : (l : Layout) (j : ℕ) → j < 12 → allPassOf l + j < channelsOf l
-long-inside Bands20 j u = omega arith
-long-inside Bands34 j u = omega arith
+long-inside l j u = let b = bounds l in omega arith
 
 pub short-inside : (l : Layout) (j : ℕ) → j < 29 → shortDelayOf l + j < channelsOf l
-short-inside Bands20 j u = omega arith
-short-inside Bands34 j u = omega arith
+short-inside l j u = omega (arith, bounds l .last)
 
 -- ---- the channels
 
@@ -97,7 +95,7 @@ module _ (l : Layout) (c d : ℕ → Channel) (near : (k : ℕ) → k < channels
 over-alike : {A : Type 0} (n : ℕ) (c d old : ℕ → A) → ((b : ℕ) → b < n → c b ≡ d b) → (b : ℕ) → overwritten n c old b ≡ overwritten n d old b
 over-alike n c d old same b = chosen (ltb b n) (c b) (d b) (old b) (λ e. same b (ltb-true b n e))
 
-detectors-alike : (l : Layout) (c d : ℕ → Detector) → ((b : ℕ) → b < bandsOf l → c b ≡ d b) → (old : List Float) → detectorsWith l c old ≡ detectorsWith l d old
+pub detectors-alike : (l : Layout) (c d : ℕ → Detector) → ((b : ℕ) → b < bandsOf l → c b ≡ d b) → (old : List Float) → detectorsWith l c old ≡ detectorsWith l d old
 unfolding detectorsWith
 detectors-alike l c d same old =
     let over = over-alike (bandsOf l) c d _ same in
@@ -144,9 +142,8 @@ stored-near old s t near =
     λ i. record {
       asked = old .asked;
       layout = core .layout i;
-      configured = near .configured i;
       cued = core .cued i;
-      indices = near .indices i;
+      lines = near .lines i;
       history = history i;
       decorr = record { delays = delays i; long = long i; short = short i; detectors = detectors i };
       stereo = stereo i;

@@ -2,15 +2,15 @@
 -- Assumes nothing.
 use mathlib.Core.Path.{_≡_, refl, sym, ap, _∙_}
 use mathlib.Core.Bool.{Bool, true, false}
-use Prim.Native.Nat.{ℕ, _+_, _-_, _*_, _<_, _≤_, min}
+use Prim.Native.Nat.{ℕ, _-_, _*_, _<_, _≤_, min}
 use native.Mathlib.Omega.{arith}
 use borrow.Author.Tests.{ltb-true, ltb-false, leb-true, leb-false, lt-ltb, le-ltb}
 use lib.Dec.{ltb, leb}
 use lib.ListN.{length, replicate, length-replicate}
 use Rattle.calls.specs.Near.{NearChannel}
 use Rattle.layout.specs.declared.Layout.{Layout}
-use Rattle.layout.specs.declared.Layout.the-variants.{Bands20, Bands34}
 use Rattle.layout.specs.Numbers.{channelsOf, allPassOf, shortDelayOf}
+use Rattle.layout.proofs.Bounds.{bounds}
 use Rattle.lists.specs.Part.{part}
 use Rattle.ps_decorr.specs.declared.PsDecorr.{PsDecorr}
 use Rattle.ps_decorr.specs.Channels.{delayOf, channelIn}
@@ -22,17 +22,6 @@ use Rattle.standard.specs.Numbers.{zero}
 use Rattle.ps_state.proofs.Images.{part-repeated, held-silent, silent-chained}
 use Rattle.ps_state.proofs.Stored.{near-channel}
 use Rattle.ps_state.proofs.Cleared.{part-before, part-behind}
-
--- ---- what the layouts have in common: at most 50 all-pass channels, then 12 long delays, then 29 short ones
-
-record Counted (l : Layout) : Type 0 where
-  pub chains : allPassOf l ≤ 50
-  pub longs : shortDelayOf l ≡ allPassOf l + 12
-  pub shorts : channelsOf l ≡ shortDelayOf l + 29
-
-counted : (l : Layout) → Counted l
-counted Bands20 = record { chains = omega arith; longs = refl; shorts = refl }
-counted Bands34 = record { chains = omega arith; longs = refl; shorts = refl }
 
 -- a channel is of one of the three kinds
 kinds : (l : Layout) (k : ℕ) (G : Type 0) → (k < allPassOf l → G)
@@ -76,29 +65,29 @@ module _ (l : Layout) (place : ℕ) (d : PsDecorr) (z : Sized d) (k : ℕ) (u : 
   reset-before : k < place → Same l k (resetFrom l place d) d
   unfolding resetFrom
   reset-before h =
-      let n = counted l in
+      let n = bounds l in
       record {
-        chain = λ v. part-before (28 * min place 50) (d .delays) (omega (arith, z .delays)) (28 * k) 28 (omega (arith, n .chains));
-        long = λ v w. part-before (28 * min (place - allPassOf l) 12) (d .long) (omega (arith, z .long)) (28 * (k - allPassOf l)) 28 (omega (arith, n .longs));
-        short = λ v. part-before (2 * min (place - shortDelayOf l) 29) (d .short) (omega (arith, z .short)) (2 * (k - shortDelayOf l)) 2 (omega (arith, n .shorts));
+        chain = λ v. part-before (28 * min place 50) (d .delays) (omega (arith, z .delays)) (28 * k) 28 (omega (arith, n .all-pass));
+        long = λ v w. part-before (28 * min (place - allPassOf l) 12) (d .long) (omega (arith, z .long)) (28 * (k - allPassOf l)) 28 (omega (arith, n .short));
+        short = λ v. part-before (2 * min (place - shortDelayOf l) 29) (d .short) (omega (arith, z .short)) (2 * (k - shortDelayOf l)) 2 (omega (arith, n .last));
       }
 
   reset-behind : place ≤ k → Same l k (resetFrom l place d) freshDecorr
   unfolding resetFrom
   reset-behind h =
-      let n = counted l in
+      let n = bounds l in
       record {
         chain = λ v.
-            part-behind (28 * min place 50) (d .delays) (omega (arith, z .delays)) (28 * k) 28 (omega arith) (omega (arith, z .delays, n .chains))
-            ∙ sym (part-repeated (28 * k) 28 1400 zero (omega (arith, n .chains)));
+            part-behind (28 * min place 50) (d .delays) (omega (arith, z .delays)) (28 * k) 28 (omega arith) (omega (arith, z .delays, n .all-pass))
+            ∙ sym (part-repeated (28 * k) 28 1400 zero (omega (arith, n .all-pass)));
         long = λ v w.
             let j = k - allPassOf l in
-            part-behind (28 * min (place - allPassOf l) 12) (d .long) (omega (arith, z .long)) (28 * j) 28 (omega arith) (omega (arith, z .long, n .longs))
-            ∙ sym (part-repeated (28 * j) 28 336 zero (omega (arith, n .longs)));
+            part-behind (28 * min (place - allPassOf l) 12) (d .long) (omega (arith, z .long)) (28 * j) 28 (omega arith) (omega (arith, z .long, n .short))
+            ∙ sym (part-repeated (28 * j) 28 336 zero (omega (arith, n .short)));
         short = λ v.
             let j = k - shortDelayOf l in
-            part-behind (2 * min (place - shortDelayOf l) 29) (d .short) (omega (arith, z .short)) (2 * j) 2 (omega arith) (omega (arith, z .short, n .shorts))
-            ∙ sym (part-repeated (2 * j) 2 58 zero (omega (arith, n .shorts)));
+            part-behind (2 * min (place - shortDelayOf l) 29) (d .short) (omega (arith, z .short)) (2 * j) 2 (omega arith) (omega (arith, z .short, n .last))
+            ∙ sym (part-repeated (2 * j) 2 58 zero (omega (arith, n .last)));
       }
 
 -- ---- as the definitions have it
@@ -106,17 +95,17 @@ module _ (l : Layout) (place : ℕ) (d : PsDecorr) (z : Sized d) (k : ℕ) (u : 
 -- a memory of zeros holds silent channels
 near-silent : (l : Layout) (k : ℕ) → k < channelsOf l → NearChannel l k (channelFrom l freshDecorr k) silent
 near-silent l k u =
-    let n = counted l in
+    let n = bounds l in
     near-channel l k (replicate 1400 zero) (replicate 336 zero) (replicate 58 zero) silent
     (λ v.
-    let zeros : part (28 * k) 28 (replicate 1400 zero) ≡ replicate 28 zero = part-repeated (28 * k) 28 1400 zero (omega (arith, n .chains)) in
+    let zeros : part (28 * k) 28 (replicate 1400 zero) ≡ replicate 28 zero = part-repeated (28 * k) 28 1400 zero (omega (arith, n .all-pass)) in
     rw zeros silent-chained)
     (λ v w.
     let j = k - allPassOf l in
-    held-silent 14 (part (28 * j) 28 (replicate 336 zero)) (part-repeated (28 * j) 28 336 zero (omega (arith, n .longs))))
+    held-silent 14 (part (28 * j) 28 (replicate 336 zero)) (part-repeated (28 * j) 28 336 zero (omega (arith, n .short))))
     (λ v.
     let j = k - shortDelayOf l in
-    held-silent 1 (part (2 * j) 2 (replicate 58 zero)) (part-repeated (2 * j) 2 58 zero (omega (arith, n .shorts))))
+    held-silent 1 (part (2 * j) 2 (replicate 58 zero)) (part-repeated (2 * j) 2 58 zero (omega (arith, n .last))))
 
 near-same : (l : Layout) (k : ℕ) (c : Channel) → NearChannel l k c c
 near-same l k c = record { past = λ i v. refl; first = λ w i v. refl; second = λ w i v. refl; third = λ w i v. refl }

@@ -20,11 +20,11 @@ use Rattle.lists.proofs.Maps.{tabulate-length, tabulate-at}
 use Rattle.lists.proofs.Parts.{part-at, part-length}
 use Rattle.lists.proofs.Rows.{rows-length, rows-part}
 use Rattle.planar.specs.Cells.{cell}
+use Rattle.planar.specs.Frame.{ipdOf, opdOf}
 use Rattle.planar.specs.Window.{imageOf, historyOf}
 use Rattle.planar.proofs.Cells.{by-parts, planar-at, planar-length}
 use Rattle.ps_decorr_allpass.specs.Memory.{channelOf, memoryOf}
 use Rattle.ps_decorr_transient.specs.Gains.{detectorOf}
-use Rattle.ps_stereo_envelope.specs.Envelope.{ipdOf, opdOf}
 use Rattle.standard.specs.Numbers.{zero, nought}
 use Rattle.standard.specs.Channel.{Channel, silent, back}
 use Rattle.standard.specs.Detector.{Detector}

@@ -1,4 +1,3 @@
-pub mod Literals
 pub mod Alike
 pub mod Images
 pub mod Stored

@@ -1,20 +1,19 @@
 -- The state made ready over flat numbers is near the state that the definitions make ready, and keeps its lengths. Assumes nothing.
 use mathlib.Core.Path.{_≡_, refl, _∙_}
 use mathlib.Core.Bool.{Bool, true, false, cond}
-use mathlib.Core.List.{List, []}
-use Prim.Native.Nat.{ℕ, _+_, _-_, _*_, _<_, _≤_, min}
+use mathlib.Core.List.{[]}
+use Prim.Native.Nat.{ℕ, _-_, _*_, _<_, min}
 use native.Mathlib.Omega.{arith}
-use lib.Ieee.{Float, nan}
 use lib.IntN.{pos}
-use lib.ListN.{getD, replicate, length-replicate, getD-replicate}
+use lib.ListN.{replicate, length-replicate}
 use Rattle.calls.specs.Near.{Alike, NearCore}
+use Rattle.calls.proofs.Ready.{layout-is}
 use Rattle.layout.specs.declared.Layout.{Layout}
-use Rattle.layout.specs.declared.Layout.the-variants.{Bands20, Bands34}
-use Rattle.layout.specs.Numbers.{bandsOf, allPassOf, shortDelayOf}
+use Rattle.layout.specs.Numbers.{allPassOf, shortDelayOf}
+use Rattle.layout.proofs.Bounds.{bounds}
 use Rattle.lists.specs.Part.{part}
 use Rattle.planar.specs.Window.{historyOf}
 use Rattle.ps_decorr.specs.State.{freshDecorr, resetFrom}
-use Rattle.ps_decorr_transient.specs.Gains.{detectorOf}
 use Rattle.ps_stereo.specs.State.{switchedTo}
 use Rattle.standard.specs.Core.{Core, Head, sameLayout, remapped, switched, clearFrom, cleared, ready}
 use Rattle.standard.specs.Channel.{silent}
@@ -25,22 +24,12 @@ use Rattle.ps_state.specs.State.{coreOf}
 use Rattle.ps_state.specs.Ready.{switchedFrom, clearedPlace, readied}
 use Rattle.ps_state.specs.Shape.{Shaped}
 use Rattle.ps_state.proofs.Images.{part-repeated, held-silent}
+use Rattle.ps_state.proofs.Stored.{fresh-detector}
 use Rattle.ps_state.proofs.Cleared.{cleared-length}
 use Rattle.ps_state.proofs.Channels.{Sized, fresh-sized, near-cleared, near-renewed}
 use Rattle.ps_state.proofs.Remapped.{remapped-length, remapped-kept}
 
 -- ---- in two steps: a change of layout, then the reset
-
-same-is : (a b : Layout) → sameLayout a b ≡ true → a ≡ b
-unfolding sameLayout
-same-is Bands20 Bands20 e = refl
-same-is Bands20 Bands34 e = cc
-same-is Bands34 Bands20 e = cc
-same-is Bands34 Bands34 e = refl
-
-bands-few : (l : Layout) → bandsOf l ≤ 34
-bands-few Bands20 = omega arith
-bands-few Bands34 = omega arith
 
 -- the state after a real change of layout, over numbers and in the definitions
 abbrev renewed : Layout → PsDecoder → PsDecoder
@@ -48,9 +37,8 @@ renewed l s =
     record {
       asked = s .asked;
       layout = l;
-      configured = s .configured;
       cued = s .cued;
-      indices = s .indices;
+      lines = s .lines;
       history = replicate 60 zero;
       decorr = freshDecorr;
       stereo = switchedTo l (s .stereo);
@@ -65,9 +53,8 @@ resetIn l edge t =
     record {
       asked = t .asked;
       layout = t .layout;
-      configured = t .configured;
       cued = t .cued;
-      indices = t .indices;
+      lines = t .lines;
       history = t .history;
       decorr = resetFrom l (clearedPlace l edge (t .cued)) (t .decorr);
       stereo = t .stereo;
@@ -98,13 +85,6 @@ module _ (s : Core) (head : Head) where
 
 -- ---- near, for each of the two
 
-detector-same : (m : List Float) (z : Float) (b : ℕ) → ((i : ℕ) → i < 102 → getD m i nan ≡ z)
-    → b < 34 → detectorOf m b ≡ record { peak = z; smooth = z; difference = z }
-detector-same m z b all u = rw (all b (omega arith), all (b + 34) (omega arith), all (b + 68) (omega arith))
-
-calm-zeros : (b : ℕ) → b < 34 → detectorOf (replicate 102 zero) b ≡ calm
-calm-zeros b u = detector-same (replicate 102 zero) zero b (λ i v. getD-replicate 102 i zero nan v) u
-
 module _ (s : PsDecoder) (head : Head) (shape : Shaped s) where
   abbrev l : Layout
   l = head .layout
@@ -130,8 +110,8 @@ module _ (s : PsDecoder) (head : Head) (shape : Shaped s) where
         layout = refl;
         cued = refl;
         channel = λ k u. near-renewed l (clearedPlace l (head .edge) (s .cued)) k u;
-        detector = λ b u. calm-zeros b (omega (arith, bands-few l));
-        kept = λ b u. remapped-kept l (s .stereo) b (omega (arith, bands-few l));
+        detector = λ b u. fresh-detector b (omega (arith, bounds l .bands));
+        kept = λ b u. remapped-kept l (s .stereo) b (omega (arith, bounds l .bands));
       }
 
 pub near-readied : (s : PsDecoder) (head : Head) → Shaped s → NearCore (coreOf (readied (head .layout) (head .edge) s)) (ready head (coreOf s))
@@ -139,7 +119,7 @@ unfolding coreOf
 near-readied s head shape = go (sameLayout (s .layout) (head .layout)) refl
   where
     go : (same : Bool) → sameLayout (s .layout) (head .layout) ≡ same → NearCore (coreOf (readied (head .layout) (head .edge) s)) (ready head (coreOf s))
-    go true e = rw (readied-same s (head .layout) (head .edge) e, ready-same (coreOf s) head e) (near-kept s head shape (same-is (s .layout) (head .layout) e))
+    go true e = rw (readied-same s (head .layout) (head .edge) e, ready-same (coreOf s) head e) (near-kept s head shape (layout-is (s .layout) (head .layout) e))
     go false e = rw (readied-other s (head .layout) (head .edge) e, ready-other (coreOf s) head e) (near-changed s head shape)
 
 -- ---- the lengths

@@ -11,7 +11,7 @@ use lib.ListN.{length, getD, replicate, getD-replicate}
 use Rattle.layout.specs.declared.Layout.{Layout}
 use Rattle.lists.specs.Part.{part}
 use Rattle.lists.specs.Rows.{tabulate}
-use Rattle.lists.proofs.Held.{held-length}
+use Rattle.lists.proofs.Padded.{padded-length}
 use Rattle.lists.proofs.Maps.{tabulate-length, tabulate-at, tabulate-same}
 use Rattle.lists.proofs.Parts.{part-at}
 use Rattle.lists.proofs.Places.{any-default}
@@ -28,7 +28,7 @@ use Rattle.standard.specs.Numbers.{zero}
 -- every layout's coefficients stand in 34 places
 mapped-length : (v : List Float) (l : Layout) → length (mapCoefficients v l) ≡ 34
 unfolding mapCoefficients
-mapped-length v l = held-length (whole 0) 34 (map (coefficientFrom v) (sourcesOf l))
+mapped-length v l = padded-length (whole 0) 34 (map (coefficientFrom v) (sourcesOf l))
 
 module _ (l : Layout) (m : List Float) where
   -- the row of band b

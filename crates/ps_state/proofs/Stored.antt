@@ -14,14 +14,15 @@ use Rattle.calls.specs.Call.{Playing, fresh}
 use Rattle.calls.specs.Near.{NearChannel, NearCore, Near}
 use Rattle.complex.specs.declared.Complex.{Complex}
 use Rattle.layout.specs.declared.Layout.{Layout}
-use Rattle.layout.specs.declared.Layout.the-variants.{Bands20, Bands34}
+use Rattle.layout.specs.declared.Layout.the-variants.{Bands20}
 use Rattle.layout.specs.Numbers.{splitOf, bandsOf, channelsOf, allPassOf, shortDelayOf}
+use Rattle.layout.proofs.Bounds.{bounds}
 use Rattle.lists.specs.Part.{part}
 use Rattle.lists.specs.Rows.{rows}
 use Rattle.lists.proofs.Maps.{tabulate-length}
 use Rattle.lists.proofs.Rows.{rows-length}
 use Rattle.planar.specs.Cells.{overwritten}
-use Rattle.planar.specs.Frame.{keptMatrix, numbersOf}
+use Rattle.planar.specs.Frame.{keptMatrix, numbersOf, ipdOf, opdOf}
 use Rattle.planar.specs.Window.{imageOf}
 use Rattle.ps_decorr.specs.Channels.{channelIn, longWith, shortWith, detectorsWith}
 use Rattle.ps_decorr_allpass.specs.Memory.{channelOf, memoryOf, delaysWith}
@@ -29,7 +30,6 @@ use Rattle.ps_decorr_transient.specs.Gains.{detectorOf}
 use Rattle.ps_stereo.specs.declared.PsStereo.{PsStereo}
 use Rattle.ps_stereo.specs.State.{freshStereo}
 use Rattle.ps_stereo.specs.Kept.{keptIn, stereoWith}
-use Rattle.ps_stereo_envelope.specs.Envelope.{ipdOf, opdOf}
 use Rattle.standard.specs.Channel.{Channel, silent}
 use Rattle.standard.specs.Core as core
 use Rattle.standard.specs.Detector.{Detector, calm}
@@ -41,26 +41,6 @@ use Rattle.ps_state.specs.State.{freshDecoder, coreOf, playingOf, histor
 use Rattle.ps_state.proofs.Images.{row-part, laid-length, laid-part, part-repeated, image-length, Held, held-image, held-silent, Chained, memory-length, memory-chained, silent-chained, detectors-at, ipd-at, opd-at}
 
 -- ---- the layouts' numbers: the places of 50 chains, 12 long delays, 29 short ones, 5 split bands and 34 stereo bands suffice
-
-all-pass-fits : (l : Layout) → allPassOf l ≤ 50
-all-pass-fits Bands20 = omega arith
-all-pass-fits Bands34 = omega arith
-
-short-from : (l : Layout) → shortDelayOf l ≡ allPassOf l + 12
-short-from Bands20 = refl
-short-from Bands34 = refl
-
-channels-from : (l : Layout) → channelsOf l ≡ shortDelayOf l + 29
-channels-from Bands20 = refl
-channels-from Bands34 = refl
-
-split-fits : (l : Layout) → splitOf l ≤ 5
-split-fits Bands20 = omega arith
-split-fits Bands34 = omega arith
-
-bands-fit : (l : Layout) → bandsOf l ≤ 34
-bands-fit Bands20 = omega arith
-bands-fit Bands34 = omega arith
 
 -- ---- a channel is near where the numbers that hold it are
 
@@ -109,7 +89,7 @@ module _ (l : Layout) (past : ℕ → List Complex) (old : List Float) (long : l
   unfolding historyWith
   history-held p u =
       held-image 6 (part (12 * p) 12 (historyWith l past old)) (past p)
-      (laid-part 12 (splitOf l) 5 (λ p. imageOf 6 (past p)) old (λ p. image-length 6 (past p)) long (split-fits l) p u)
+      (laid-part 12 (splitOf l) 5 (λ p. imageOf 6 (past p)) old (λ p. image-length 6 (past p)) long (bounds l .split) p u)
 
 module _ (l : Layout) (channel : ℕ → Channel) where
   module _ (old : List Float) (long : length old ≡ 1400) where
@@ -121,7 +101,7 @@ module _ (l : Layout) (channel : ℕ → Channel) where
     unfolding delaysWith
     delays-chained k u =
         subst (λ (m : List Float). Chained (channelOf m) (channel k))
-        (sym (laid-part 28 (allPassOf l) 50 (λ k. memoryOf (channel k)) old (λ k. memory-length (channel k)) long (all-pass-fits l) k u))
+        (sym (laid-part 28 (allPassOf l) 50 (λ k. memoryOf (channel k)) old (λ k. memory-length (channel k)) long (bounds l .all-pass) k u))
         (memory-chained (channel k))
 
   -- delays of d slots of the channels from one on, n of them
@@ -145,8 +125,8 @@ module _ (l : Layout) (channel : ℕ → Channel) where
   channel-near old long k u =
       near-channel l k (delaysWith l channel old) (longWith l channel) (shortWith l channel) (channel k)
       (delays-chained old long k)
-      (λ h v. delayed-held 14 (allPassOf l) 12 k h (omega (arith, short-from l)))
-      (λ h. delayed-held 1 (shortDelayOf l) 29 k h (omega (arith, channels-from l)))
+      (λ h v. delayed-held 14 (allPassOf l) 12 k h (omega (arith, bounds l .short)))
+      (λ h. delayed-held 1 (shortDelayOf l) 29 k h (omega (arith, bounds l .last)))
 
 module _ (l : Layout) (detector : ℕ → Detector) (old : List Float) where
   detectors-length : length (detectorsWith l detector old) ≡ 102
@@ -156,7 +136,7 @@ module _ (l : Layout) (detector : ℕ → Detector) (old : List Float) where
   detector-held : (b : ℕ) → b < bandsOf l → detectorOf (detectorsWith l detector old) b ≡ detector b
   unfolding detectorsWith
   detector-held b u =
-      detectors-at (overwritten (bandsOf l) detector (detectorOf old)) b (omega (arith, bands-fit l)) ∙ rw (lt-ltb b (bandsOf l) u)
+      detectors-at (overwritten (bandsOf l) detector (detectorOf old)) b (omega (arith, bounds l .bands)) ∙ rw (lt-ltb b (bandsOf l) u)
 
 module _ (l : Layout) (kept : ℕ → Kept) (old : PsStereo) (long : length (old .matrices) ≡ 272) where
   matrices-length : length (stereoWith l kept old .matrices) ≡ 272
@@ -175,7 +155,7 @@ module _ (l : Layout) (kept : ℕ → Kept) (old : PsStereo) (long : length (old
       new = overwritten (bandsOf l) kept (keptIn old)
 
       inside : b < 34
-      inside = omega (arith, bands-fit l)
+      inside = omega (arith, bounds l .bands)
 
       is-new : new b ≡ kept b
       is-new = rw (lt-ltb b (bandsOf l) u)
@@ -183,7 +163,7 @@ module _ (l : Layout) (kept : ℕ → Kept) (old : PsStereo) (long : length (old
       matrix : keptMatrix (part (8 * b) 8 (stereoWith l kept old .matrices)) ≡ kept b .matrix
       matrix =
           ap keptMatrix
-          (laid-part 8 (bandsOf l) 34 (λ b. numbersOf (kept b .matrix)) (old .matrices) (λ b. refl) long (bands-fit l) b u)
+          (laid-part 8 (bandsOf l) 34 (λ b. numbersOf (kept b .matrix)) (old .matrices) (λ b. refl) long (bounds l .bands) b u)
 
       ipd : ipdOf (stereoWith l kept old .phases) b ≡ kept b .ipd
       ipd =
@@ -227,8 +207,7 @@ module _ (old : PsDecoder) (s : Playing) (shape : Shaped old) where
   near-stored slots =
       record {
         slots = sym slots;
-        configured = refl;
-        indices = refl;
+        lines = refl;
         past = history-held (s .core .layout) (s .past) (old .history) (shape .history);
         core = core-near;
       }
@@ -243,7 +222,7 @@ fresh-channel k u =
     (λ h v. held-silent 14 (part (28 * (k - 30)) 28 (replicate 336 zero)) (part-repeated (28 * (k - 30)) 28 336 zero (omega arith)))
     (λ h. held-silent 1 (part (2 * (k - 42)) 2 (replicate 58 zero)) (part-repeated (2 * (k - 42)) 2 58 zero (omega arith)))
 
-fresh-detector : (b : ℕ) → b < 34 → detectorOf (replicate 102 zero) b ≡ calm
+pub fresh-detector : (b : ℕ) → b < 34 → detectorOf (replicate 102 zero) b ≡ calm
 fresh-detector b u = λ i. record { peak = at b (omega arith) i; smooth = at (b + 34) (omega arith) i; difference = at (b + 68) (omega arith) i }
   where
     at : (i : ℕ) → i < 102 → getD (replicate 102 zero) i nan ≡ zero
@@ -282,8 +261,7 @@ module _ (asked : ℕ) where
   near-fresh =
       record {
         slots = refl;
-        configured = refl;
-        indices = refl;
+        lines = refl;
         past = λ p u. held-silent 6 (part (12 * p) 12 (replicate 60 zero)) (part-repeated (12 * p) 12 60 zero (omega arith));
         core =
             record {

@@ -17,9 +17,8 @@ switchedFrom l s =
     (record {
       asked = s .asked;
       layout = l;
-      configured = s .configured;
       cued = s .cued;
-      indices = s .indices;
+      lines = s .lines;
       history = replicate 60 zero;
       decorr = freshDecorr;
       stereo = switchedTo l (s .stereo);
@@ -35,9 +34,8 @@ readied l edge s =
     record {
       asked = t .asked;
       layout = t .layout;
-      configured = t .configured;
       cued = t .cued;
-      indices = t .indices;
+      lines = t .lines;
       history = t .history;
       decorr = resetFrom l (clearedPlace l edge (t .cued)) (t .decorr);
       stereo = t .stereo;

@@ -14,7 +14,7 @@ use Rattle.layout.specs.Numbers.{splitOf}
 use Rattle.lists.specs.Part.{part}
 use Rattle.lists.specs.Rows.{rows}
 use Rattle.planar.specs.Window.{imageOf, historyOf}
-use Rattle.ps_data.specs.Indices.{freshIndices}
+use Rattle.ps_data.specs.Indices.{freshLines}
 use Rattle.ps_decorr.specs.State.{decorrOf, freshDecorr}
 use Rattle.ps_decorr.specs.Channels.{channelIn, longWith, shortWith, detectorsWith}
 use Rattle.ps_decorr_allpass.specs.Memory.{delaysWith}
@@ -32,13 +32,16 @@ decoderOf s history delays long short detectors =
     record {
       asked = s .asked;
       layout = s .layout;
-      configured = s .configured;
       cued = s .cued;
-      indices = s .indices;
+      lines = s .lines;
       history = history;
       decorr = decorrOf delays long short detectors;
       stereo = s .stereo;
     }
+
+-- what is small in a state
+abbrev pub carriedOf : PsDecoder → PsCarried
+carriedOf s = record { asked = s .asked; layout = s .layout; cued = s .cued; lines = s .lines; stereo = s .stereo }
 
 -- every delay silent, every detector calm, no coefficients, no rows
 abbrev pub freshDecoder : ℕ → PsDecoder
@@ -46,9 +49,8 @@ freshDecoder asked =
     record {
       asked = asked;
       layout = Bands20;
-      configured = false;
       cued = false;
-      indices = freshIndices;
+      lines = freshLines;
       history = replicate 60 zero;
       decorr = freshDecorr;
       stereo = freshStereo;
@@ -70,8 +72,7 @@ unfoldable pub playingOf : PsDecoder → Playing
 playingOf s =
     record {
       slots = slotsOf (s .asked);
-      configured = s .configured;
-      indices = s .indices;
+      lines = s .lines;
       past = λ p. historyOf 6 6 (part (12 * p) 12 (s .history));
       core = coreOf s;
     }
@@ -87,9 +88,8 @@ stored old s =
     record {
       asked = old .asked;
       layout = l;
-      configured = s .configured;
       cued = s .core .cued;
-      indices = s .indices;
+      lines = s .lines;
       history = historyWith l (s .past) (old .history);
       decorr =
           record {

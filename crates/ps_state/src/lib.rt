@@ -1,21 +1,20 @@
 // The carried state of a decoder (source document 004), fresh and made ready for a frame.
 use layout::Layout;
-use ps_data::PsIndexState;
+use ps_data::PsLines;
 use ps_decorr::PsDecorr;
 use ps_stereo::PsStereo;
 ghost use mathlib.Core.Path.{_≡_};
 ghost use Rattle.standard.specs.Core.{sameLayout};
-ghost use Rattle.ps_state.specs.State.{freshDecoder, decoderOf};
+ghost use Rattle.ps_state.specs.State.{freshDecoder, carriedOf, decoderOf};
 ghost use Rattle.ps_state.specs.Ready.{switchedFrom, clearedPlace, readied};
 
 pub struct PsDecoder {
     // The slots asked for.
     pub asked: usize,
     pub layout: Layout,
-    // Whether a configuration has come, and whether the last accepted frame had a line.
-    pub configured: bool,
+    // Whether the last accepted frame had a line.
     pub cued: bool,
-    pub indices: PsIndexState,
+    pub lines: PsLines,
     // For each of five QMF bands a run of its last six slots.
     pub history: [f64; 60],
     pub decorr: PsDecorr,
@@ -29,9 +28,8 @@ pub fn fresh(asked: usize) -> PsDecoder
     PsDecoder {
         asked: asked,
         layout: Layout::Bands20,
-        configured: false,
         cued: false,
-        indices: ps_data::fresh(),
+        lines: ps_data::fresh(),
         history: [0.0; 60],
         decorr: ps_decorr::fresh(),
         stereo: ps_stereo::fresh(),
@@ -57,10 +55,56 @@ fn same(a: Layout, b: Layout) -> bool
 pub struct PsCarried {
     pub asked: usize,
     pub layout: Layout,
-    pub configured: bool,
     pub cued: bool,
-    pub indices: PsIndexState,
+    pub lines: PsLines,
     pub stereo: PsStereo,
+}
+
+// What is small in a state.
+pub fn apart(state: PsDecoder) -> PsCarried
+    ensures { λ r. ⌜ r ≡ carriedOf state ⌝ }
+{
+    let layout = state.layout;
+    let lines = state.lines;
+    let stereo = state.stereo;
+    PsCarried {
+        asked: state.asked,
+        layout: layout,
+        cued: state.cued,
+        lines: lines,
+        stereo: stereo,
+    }
+}
+
+// The state of which this is what is small, and these are the arrays.
+pub fn together(
+    carried: PsCarried,
+    history: [f64; 60],
+    delays: [f64; 1400],
+    long: [f64; 336],
+    short: [f64; 58],
+    detectors: [f64; 102],
+) -> PsDecoder
+    ensures { λ r. ⌜ r ≡ decoderOf carried history delays long short detectors ⌝ }
+{
+    let layout = carried.layout;
+    let lines = carried.lines;
+    let stereo = carried.stereo;
+    let decorr = PsDecorr {
+        delays: delays,
+        long: long,
+        short: short,
+        detectors: detectors,
+    };
+    PsDecoder {
+        asked: carried.asked,
+        layout: layout,
+        cued: carried.cued,
+        lines: lines,
+        history: history,
+        decorr: decorr,
+        stereo: stereo,
+    }
 }
 
 // A change of layout resets the hybrid history and the whole de-correlator, and remaps the held coefficients.
@@ -85,14 +129,13 @@ fn switched(
     *long = [0.0; 336];
     *short = [0.0; 58];
     *detectors = [0.0; 102];
-    let indices = carried.indices;
+    let lines = carried.lines;
     let stereo = carried.stereo;
     PsCarried {
         asked: carried.asked,
         layout: layout,
-        configured: carried.configured,
         cued: carried.cued,
-        indices: indices,
+        lines: lines,
         stereo: ps_stereo::switched(stereo, layout),
     }
 }

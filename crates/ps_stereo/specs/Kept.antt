@@ -8,8 +8,7 @@ use Rattle.layout.specs.Numbers.{bandsOf}
 use Rattle.lists.specs.Part.{part}
 use Rattle.lists.specs.Rows.{rows, tabulate}
 use Rattle.planar.specs.Cells.{overwritten}
-use Rattle.planar.specs.Frame.{keptMatrix, numbersOf}
-use Rattle.ps_stereo_envelope.specs.Envelope.{ipdOf, opdOf}
+use Rattle.planar.specs.Frame.{keptMatrix, numbersOf, ipdOf, opdOf}
 use Rattle.standard.specs.Mixing.{Kept}
 use Rattle.ps_stereo.specs.declared.PsStereo.{PsStereo}
 

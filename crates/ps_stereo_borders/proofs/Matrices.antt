@@ -11,6 +11,7 @@ use lib.ListN.{length, take, drop, take-append-drop, drop-of-length-le}
 use Rattle.cue.specs.declared.Config.{Config}
 use Rattle.layout.specs.declared.Layout.{Layout}
 use Rattle.layout.specs.Numbers.{bandsOf}
+use Rattle.layout.proofs.Bounds.{bounds}
 use Rattle.lists.specs.Part.{part}
 use Rattle.lists.specs.Rows.{rows}
 use Rattle.lists.proofs.Parts.{part-length}
@@ -20,7 +21,7 @@ use Rattle.ps_data.specs.declared.PsIndices.{PsIndices}
 use Rattle.ps_stereo.specs.declared.PsStereo.{PsStereo}
 use Rattle.ps_stereo.specs.Kept.{stereoWith}
 use Rattle.ps_stereo_envelope.specs.Envelope.{rowFrom}
-use Rattle.ps_stereo_envelope.proofs.Filling.{row-whole, few-bands}
+use Rattle.ps_stereo_envelope.proofs.Filling.{row-whole}
 use Rattle.standard.specs.declared.Modes.{Modes}
 use Rattle.standard.specs.Mixing.{Kept}
 use Rattle.ps_stereo_borders.specs.Borders.{keptThen, stereoAfter}
@@ -48,14 +49,14 @@ module _ (l : Layout) (modes : Modes) (config : Config) (indices : PsIndices) (o
     first-numbers =
         ap (λ (n : ℕ). take n (old .matrices)) (mul-comm 8 (bandsOf l))
         ∙ sym (rows-cut 8 (bandsOf l) (old .matrices))
-        ∙ rows-same (λ b. part (b * 8) 8 (old .matrices)) (numbersThen 0) (bandsOf l) (λ b u. first-band b (omega (arith, few-bands l)))
+        ∙ rows-same (λ b. part (b * 8) 8 (old .matrices)) (numbersThen 0) (bandsOf l) (λ b u. first-band b (omega (arith, bounds l .bands)))
 
     -- those of border k, where bands that the layout lacks are as they were
     pub numbers-whole : (k : ℕ) → rows (numbersThen k) (bandsOf l) ++ drop (8 * bandsOf l) (old .matrices) ≡ stereoAfter l modes config indices old k .matrices
     unfolding stereoAfter stereoWith
     numbers-whole k =
         let all = rows (rowFrom (numbersThen k) (bandsOf l) 0 (old .matrices)) 34 in
-        row-whole (numbersThen k) 0 (bandsOf l) (old .matrices) (few-bands l)
+        row-whole (numbersThen k) 0 (bandsOf l) (old .matrices) (bounds l .bands)
         ∙ ap (λ (t : List Float). all ++ t) (drop-of-length-le (old .matrices) {i = 272} (omega arith))
         ∙ append-nil all
         ∙ rows-same _ _ 34 (λ b u. ap (λ (n : ℕ). cond (ltb b (bandsOf l)) (numbersThen k b) (part n 8 (old .matrices))) (zero-add (8 * b)))

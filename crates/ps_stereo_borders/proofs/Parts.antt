@@ -11,6 +11,7 @@ use lib.Dec.{eqb}
 use lib.Ieee.{Float, nan}
 use lib.ListN.{length, getD, length-append, length-take, length-drop}
 use lib.Seq.{ext-getD}
+use Rattle.limits.specs.Limits as limits
 use Rattle.lists.specs.Part.{part, put}
 use Rattle.lists.specs.Rows.{rows, tabulate}
 use Rattle.lists.proofs.Maps.{tabulate-length, tabulate-at, copied}
@@ -31,22 +32,22 @@ numbers-kept xs long =
     let all : numbersOf (keptMatrix xs) ≡ tabulate (λ i. getD xs i nan) 8 = refl in
     all ∙ ap (tabulate (λ i. getD xs i nan)) (sym long) ∙ copied xs nan
 
--- one of five rows is written
-module _ (f g : ℕ → List Float) (j : ℕ) (old new : List Float) (inside : j < 5) (is : old ≡ rows f 5) (each : (k : ℕ) → k < 5 → length (f k) ≡ 272) (long : length old ≡ 1360)
+-- one of the rows is written
+module _ (f g : ℕ → List Float) (j : ℕ) (old new : List Float) (inside : j < limits.borders) (is : old ≡ rows f limits.borders) (each : (k : ℕ) → k < limits.borders → length (f k) ≡ 272) (long : length old ≡ limits.matrices)
     (whole : length new ≡ 272) where
-  pub row-put : new ≡ g j → ((k : ℕ) → k < 5 → k ≢ j → f k ≡ g k) → put (272 * j) 272 old new ≡ rows g 5
+  pub row-put : new ≡ g j → ((k : ℕ) → k < limits.borders → k ≢ j → f k ≡ g k) → put (272 * j) 272 old new ≡ rows g limits.borders
   row-put here other =
-      sym (rows-whole 272 5 (put (272 * j) 272 old new) put-long)
-      ∙ rows-same (λ k. part (k * 272) 272 (put (272 * j) 272 old new)) g 5 (λ k u. row k u (eqb k j) refl)
+      sym (rows-whole 272 limits.borders (put (272 * j) 272 old new) put-long)
+      ∙ rows-same (λ k. part (k * 272) 272 (put (272 * j) 272 old new)) g limits.borders (λ k u. row k u (eqb k j) refl)
     where
-      put-long : length (put (272 * j) 272 old new) ≡ 5 * 272
+      put-long : length (put (272 * j) 272 old new) ≡ limits.borders * 272
       put-long = simp (length-append, length-take, length-drop) (omega arith)
 
-      row : (k : ℕ) → k < 5 → (t : Bool) → eqb k j ≡ t → part (k * 272) 272 (put (272 * j) 272 old new) ≡ g k
+      row : (k : ℕ) → k < limits.borders → (t : Bool) → eqb k j ≡ t → part (k * 272) 272 (put (272 * j) 272 old new) ≡ g k
       row k u true e =
           let same : k ≡ j = eqb-true k j e in
           rw (same, mul-comm j 272) (part-put (272 * j) 272 old new (omega arith) whole ∙ here)
       row k u false e =
           let ne : k ≢ j = eqb-false k j e in
           rw (mul-comm 272 j)
-          (row-apart 272 k j old new (omega arith) whole ne ∙ ap (part (k * 272) 272) is ∙ rows-part f 272 5 each k u ∙ other k u ne)
+          (row-apart 272 k j old new (omega arith) whole ne ∙ ap (part (k * 272) 272) is ∙ rows-part f 272 limits.borders each k u ∙ other k u ne)

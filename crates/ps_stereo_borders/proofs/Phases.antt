@@ -14,15 +14,17 @@ use Rattle.calls.specs.Cues.{cueAt}
 use Rattle.cue.specs.declared.Config.{Config}
 use Rattle.layout.specs.declared.Layout.{Layout}
 use Rattle.layout.specs.Numbers.{bandsOf}
+use Rattle.limits.specs.Limits as limits
 use Rattle.lists.specs.Rows.{tabulate}
 use Rattle.lists.proofs.Maps.{tabulate-length, tabulate-at, tabulate-same}
 use Rattle.planar.specs.Cells.{overwritten}
+use Rattle.planar.specs.Frame.{ipdOf, opdOf}
 use Rattle.ps_data.specs.declared.PsIndices.{PsIndices}
 use Rattle.ps_stereo.specs.declared.PsStereo.{PsStereo}
 use Rattle.ps_stereo.specs.Kept.{keptIn, stereoWith}
 use Rattle.ps_stereo_cues.specs.Cues.{cuesAt}
 use Rattle.ps_stereo_envelope.specs.Envelope as envelope
-use Rattle.ps_stereo_envelope.specs.Envelope.{ipdOf, opdOf, ipdAfter, opdAfter}
+use Rattle.ps_stereo_envelope.specs.Envelope.{ipdAfter, opdAfter}
 use Rattle.ps_stereo_envelope.proofs.Kept.{by-quarters}
 use Rattle.standard.specs.declared.Modes.{Modes}
 use Rattle.standard.specs.Interpolation.{keptAt}
@@ -167,6 +169,6 @@ module _ (l : Layout) (modes : Modes) (config : Config) (indices : PsIndices) (o
         ∙ ap (λ (k : Kept). cond (ltb b (bandsOf l)) k (keptIn old b) .opd) (sym (then-next b e))
 
     -- one envelope more
-    pub phases-more : e < 4 → envelope.keptAfter l modes (cuesAt l config indices e) phases e ≡ stereoAfter l modes config indices old (e + 1) .phases
+    pub phases-more : e < limits.envelopes → envelope.keptAfter l modes (cuesAt l config indices e) phases e ≡ stereoAfter l modes config indices old (e + 1) .phases
     unfolding envelope.keptAfter
-    phases-more h = rw (lt-ltb e 4 h) (phases-same _ _ (λ b. keptBy (e + 1) b .ipd) (λ b. keptBy (e + 1) b .opd) ipd-next opd-next ∙ sym (phases-by (e + 1)))
+    phases-more h = rw (lt-ltb e limits.envelopes h) (phases-same _ _ (λ b. keptBy (e + 1) b .ipd) (λ b. keptBy (e + 1) b .opd) ipd-next opd-next ∙ sym (phases-by (e + 1)))

@@ -15,6 +15,8 @@ use Rattle.calls.specs.Cues.{cueAt}
 use Rattle.cue.specs.declared.Config.{Config}
 use Rattle.layout.specs.declared.Layout.{Layout}
 use Rattle.layout.specs.Numbers.{bandsOf}
+use Rattle.layout.proofs.Bounds.{bounds}
+use Rattle.limits.specs.Limits as limits
 use Rattle.lists.specs.Part.{part}
 use Rattle.lists.specs.Rows.{rows}
 use Rattle.lists.proofs.Parts.{part-length, part-part}
@@ -27,7 +29,7 @@ use Rattle.ps_stereo.specs.declared.PsStereo.{PsStereo}
 use Rattle.ps_stereo_cues.specs.Cues.{cuesAt}
 use Rattle.ps_stereo_envelope.specs.Envelope as envelope
 use Rattle.ps_stereo_envelope.specs.Envelope.{keptOf, numbersAt, rowFrom}
-use Rattle.ps_stereo_envelope.proofs.Filling.{row-whole, few-bands}
+use Rattle.ps_stereo_envelope.proofs.Filling.{row-whole}
 use Rattle.standard.specs.declared.Modes.{Modes}
 use Rattle.standard.specs.Mixing.{Cue, Kept, matrixFrom, keptAfter}
 use Rattle.ps_stereo_borders.specs.Borders.{keptThen, rowsAfter, stereoAfter}
@@ -59,38 +61,38 @@ module _ (l : Layout) (modes : Modes) (config : Config) (indices : PsIndices) (o
   abbrev after : ℕ → List Float → List Float
   after = rowsAfter l modes config indices old
 
-  module _ (lent : List Float) (long : length lent ≡ 1360) where
-    after-is : (e : ℕ) → after e lent ≡ rows (rowAt lent e) 5
+  module _ (lent : List Float) (long : length lent ≡ limits.matrices) where
+    after-is : (e : ℕ) → after e lent ≡ rows (rowAt lent e) limits.borders
     unfolding rowsAfter
     after-is e = refl
 
     -- ---- what a row is
 
-    band-long : (k b : ℕ) → k < 5 → b < 34 → length (bandAt lent k b) ≡ 8
+    band-long : (k b : ℕ) → k < limits.borders → b < 34 → length (bandAt lent k b) ≡ 8
     band-long k b u v = go (ltb b bands)
       where
         go : (t : Bool) → length (cond t (numbers k b) (part (272 * k + 8 * b) 8 lent)) ≡ 8
         go true = refl
         go false = part-length (272 * k + 8 * b) 8 lent (omega arith)
 
-    row-long : (e k : ℕ) → k < 5 → length (rowAt lent e k) ≡ 272
+    row-long : (e k : ℕ) → k < limits.borders → length (rowAt lent e k) ≡ 272
     row-long e k u = go (leb k e)
       where
         go : (t : Bool) → length (cond t (rows (bandAt lent k) 34) (part (272 * k) 272 lent)) ≡ 272
         go true = rows-length (bandAt lent k) 8 34 (λ b v. band-long k b u v)
         go false = part-length (272 * k) 272 lent (omega arith)
 
-    pub after-long : (e : ℕ) → length (after e lent) ≡ 1360
-    after-long e = ap length (after-is e) ∙ rows-length (rowAt lent e) 272 5 (row-long e)
+    pub after-long : (e : ℕ) → length (after e lent) ≡ limits.matrices
+    after-long e = ap length (after-is e) ∙ rows-length (rowAt lent e) 272 limits.borders (row-long e)
 
-    row-part : (e k : ℕ) → k < 5 → part (272 * k) 272 (after e lent) ≡ rowAt lent e k
-    row-part e k u = ap₂ (λ (n : ℕ) (xs : List Float). part n 272 xs) (mul-comm 272 k) (after-is e) ∙ rows-part (rowAt lent e) 272 5 (row-long e) k u
+    row-part : (e k : ℕ) → k < limits.borders → part (272 * k) 272 (after e lent) ≡ rowAt lent e k
+    row-part e k u = ap₂ (λ (n : ℕ) (xs : List Float). part n 272 xs) (mul-comm 272 k) (after-is e) ∙ rows-part (rowAt lent e) 272 limits.borders (row-long e) k u
 
-    band-part : (k b : ℕ) → k < 5 → b < 34 → part (8 * b) 8 (rows (bandAt lent k) 34) ≡ bandAt lent k b
+    band-part : (k b : ℕ) → k < limits.borders → b < 34 → part (8 * b) 8 (rows (bandAt lent k) 34) ≡ bandAt lent k b
     band-part k b u v = ap (λ (n : ℕ). part n 8 (rows (bandAt lent k) 34)) (mul-comm 8 b) ∙ rows-part (bandAt lent k) 8 34 (λ b w. band-long k b u w) b v
 
     -- bands that the layout lacks are as they were
-    others-kept : (e k b : ℕ) → k < 5 → b < 34 → ltb b bands ≡ false → part (272 * k + 8 * b) 8 (after e lent) ≡ part (272 * k + 8 * b) 8 lent
+    others-kept : (e k b : ℕ) → k < limits.borders → b < 34 → ltb b bands ≡ false → part (272 * k + 8 * b) 8 (after e lent) ≡ part (272 * k + 8 * b) 8 lent
     others-kept e k b u v lacks =
         sym (part-part (272 * k) 272 (8 * b) 8 (after e lent) (omega arith)) ∙ ap (part (8 * b) 8) (row-part e k u) ∙ go (leb k e)
       where
@@ -102,12 +104,12 @@ module _ (l : Layout) (modes : Modes) (config : Config) (indices : PsIndices) (o
     pub rows-first : length (old .matrices) ≡ 272 → replaced (8 * bands) 0 (old .matrices) lent ≡ after 0 lent
     rows-first whole =
         ap (λ (p : List Float). p ++ drop (8 * bands) lent) (first-numbers l modes config indices old whole)
-        ∙ row-whole (numbers 0) 0 bands lent (few-bands l)
-        ∙ row-put (λ k. part (k * 272) 272 lent) (rowAt lent 0) 0 lent (rows (bandAt lent 0) 34) (omega arith) (sym (rows-whole 272 5 lent long))
+        ∙ row-whole (numbers 0) 0 bands lent (bounds l .bands)
+        ∙ row-put (λ k. part (k * 272) 272 lent) (rowAt lent 0) 0 lent (rows (bandAt lent 0) 34) (omega arith) (sym (rows-whole 272 limits.borders lent long))
         (λ k u. part-length (k * 272) 272 lent (omega arith)) long (rows-length (bandAt lent 0) 8 34 (λ b v. band-long 0 b (omega arith) v)) refl other
         ∙ sym (after-is 0)
       where
-        other : (k : ℕ) → k < 5 → k ≢ 0 → part (k * 272) 272 lent ≡ rowAt lent 0 k
+        other : (k : ℕ) → k < limits.borders → k ≢ 0 → part (k * 272) 272 lent ≡ rowAt lent 0 k
         other k u ne = rw (lt-leb k 0 (omega (arith, ne)), mul-comm k 272)
 
     -- ---- one envelope more
@@ -130,7 +132,7 @@ module _ (l : Layout) (modes : Modes) (config : Config) (indices : PsIndices) (o
         go true h = sym (le-leb k (e + 1) (omega (arith, leb-true k e h)))
         go false h = let past : e < k = leb-false k e h in sym (lt-leb k (e + 1) (omega (arith, ne)))
 
-    module _ (e : ℕ) (in-time : e < 4) where
+    module _ (e : ℕ) (in-time : e < limits.envelopes) where
       abbrev new : ℕ → List Float
       new = numbersAt mixing phase modes (cuesAt l config indices e) (stereoAfter l modes config indices old e .phases)
 
@@ -147,14 +149,14 @@ module _ (l : Layout) (modes : Modes) (config : Config) (indices : PsIndices) (o
       pub rows-more : envelope.rowsAfter mixing phase l modes (cuesAt l config indices e) (stereoAfter l modes config indices old e .phases) e (after e lent) ≡ after (e + 1) lent
       unfolding envelope.rowsAfter
       rows-more =
-          rw (lt-ltb e 4 in-time)
+          rw (lt-ltb e limits.envelopes in-time)
           (row-put (rowAt lent e) (rowAt lent (e + 1)) (e + 1) (after e lent) written (omega arith) (after-is e) (row-long e) (after-long e)
           (ap length row ∙ row-long (e + 1) (e + 1) (omega arith)) row (λ k u ne. rw (same-test e k ne))
           ∙ sym (after-is (e + 1)))
 
     -- ---- rows whose row 0 is written already are after e envelopes as those that were lent
 
-    again : (e k : ℕ) → k < 5 → rowAt (after 0 lent) e k ≡ rowAt lent e k
+    again : (e k : ℕ) → k < limits.borders → rowAt (after 0 lent) e k ≡ rowAt lent e k
     again e k u = go (leb k e) refl
       where
         band-again : (b : ℕ) → b < 34 → (t : Bool) → ltb b bands ≡ t → bandAt (after 0 lent) k b ≡ bandAt lent k b
@@ -167,18 +169,18 @@ module _ (l : Layout) (modes : Modes) (config : Config) (indices : PsIndices) (o
 
     pub rows-again : (e : ℕ) → after e (after 0 lent) ≡ after e lent
     unfolding rowsAfter
-    rows-again e = rows-same (rowAt (after 0 lent) e) (rowAt lent e) 5 (again e)
+    rows-again e = rows-same (rowAt (after 0 lent) e) (rowAt lent e) limits.borders (again e)
 
     -- ---- what is kept of the last row
 
-    module _ (e : ℕ) (in-time : e ≤ 4) (whole : length (old .matrices) ≡ 272) where
+    module _ (e : ℕ) (in-time : e ≤ limits.envelopes) (whole : length (old .matrices) ≡ 272) where
       kept-front : part (272 * e) (8 * bands) (after e lent) ≡ rows (numbers e) bands
       kept-front =
           ap (λ (n : ℕ). part n (8 * bands) (after e lent)) (sym (add-zero (272 * e)))
-          ∙ sym (part-part (272 * e) 272 0 (8 * bands) (after e lent) (omega (arith, few-bands l)))
+          ∙ sym (part-part (272 * e) 272 0 (8 * bands) (after e lent) (omega (arith, bounds l .bands)))
           ∙ ap (take (8 * bands)) (row-part e e (omega arith))
           ∙ rw (le-leb e e (omega arith), mul-comm 8 bands)
-          (sym (rows-cut 8 bands (rows (bandAt lent e) 34)) ∙ rows-same _ (numbers e) bands (λ b u. band-kept b (omega (arith, few-bands l)) (lt-ltb b bands u)))
+          (sym (rows-cut 8 bands (rows (bandAt lent e) 34)) ∙ rows-same _ (numbers e) bands (λ b u. band-kept b (omega (arith, bounds l .bands)) (lt-ltb b bands u)))
         where
           band-kept : (b : ℕ) → b < 34 → ltb b bands ≡ true → part (b * 8) 8 (rows (bandAt lent e) 34) ≡ numbers e b
           band-kept b u has = rows-part (bandAt lent e) 8 34 (λ b w. band-long e b (omega arith) w) b u ∙ rw has

@@ -7,12 +7,13 @@ use lib.IntN.{ℤ}
 use lib.ListN.{length}
 use Rattle.cue.specs.declared.Config.{Config}
 use Rattle.layout.specs.declared.Layout.{Layout}
+use Rattle.limits.specs.Limits as limits
 use Rattle.mixing_table.specs.Values.{mixing}
 use Rattle.phase_table.specs.Values.{phase}
 use Rattle.ps_data.specs.declared.PsIndices.{PsIndices}
 use Rattle.ps_stereo.specs.declared.PsStereo.{PsStereo}
 use Rattle.ps_stereo_cues.specs.Cues.{cuesAt}
-use Rattle.ps_stereo_envelope.specs.declared.Cues.{Cues}
+use Rattle.standard.specs.declared.Cues.{Cues}
 use Rattle.ps_stereo_envelope.specs.Envelope as envelope
 use Rattle.standard.specs.declared.Modes.{Modes}
 use Rattle.ps_stereo_borders.specs.Borders.{rowsAfter, stereoAfter}
@@ -29,7 +30,7 @@ turn-none l modes config indices lent first long =
     record { phases-are = λ old same. phases-first l modes config indices old first same long; rows-are = λ old same start. start }
 
 pub turn-more : {l : Layout} {modes : Modes} {config : Config} {indices : PsIndices} {lent : List Float} {first : List ℤ} {e : ℕ} {phases : List ℤ} {rows : List Float}
-    → Turn l modes config indices lent first e phases rows → length lent ≡ 1360 → e < 4
+    → Turn l modes config indices lent first e phases rows → length lent ≡ limits.matrices → e < limits.envelopes
     → {coefficients directions : List ℤ} {cues : Cues} {phases′ : List ℤ} {rows′ : List Float} → coefficients ≡ mixing → directions ≡ phase → cues ≡ cuesAt l config indices e
     → phases′ ≡ envelope.keptAfter l modes cues phases e → rows′ ≡ envelope.rowsAfter coefficients directions l modes cues phases e rows
     → Turn l modes config indices lent first (e + 1) phases′ rows′

@@ -9,6 +9,7 @@ use Rattle.calls.specs.Cues.{cueAt}
 use Rattle.cue.specs.declared.Config.{Config}
 use Rattle.layout.specs.declared.Layout.{Layout}
 use Rattle.layout.specs.Numbers.{bandsOf}
+use Rattle.limits.specs.Limits as limits
 use Rattle.lists.specs.Part.{part}
 use Rattle.lists.specs.Rows.{rows}
 use Rattle.planar.specs.Frame.{numbersOf}
@@ -27,7 +28,7 @@ module _ (l : Layout) (modes : Modes) (config : Config) (indices : PsIndices) (o
   -- the coefficients at the first borders of a frame; other places of the rows stay
   unfoldable pub rowsAfter : ℕ → List Float → List Float
   rowsAfter count lent =
-      rows (λ e. cond (leb e count) (rows (λ b. cond (ltb b (bandsOf l)) (numbersOf (keptThen b e .matrix)) (part (272 * e + 8 * b) 8 lent)) 34) (part (272 * e) 272 lent)) 5
+      rows (λ e. cond (leb e count) (rows (λ b. cond (ltb b (bandsOf l)) (numbersOf (keptThen b e .matrix)) (part (272 * e + 8 * b) 8 lent)) 34) (part (272 * e) 272 lent)) limits.borders
 
   unfoldable pub stereoAfter : ℕ → PsStereo
   stereoAfter count = stereoWith l (λ b. keptThen b count) old

@@ -7,6 +7,7 @@ use lib.ListN.{length, drop}
 use Rattle.cue.specs.declared.Config.{Config}
 use Rattle.layout.specs.declared.Layout.{Layout}
 use Rattle.layout.specs.Numbers.{bandsOf}
+use Rattle.limits.specs.Limits as limits
 use Rattle.lists.specs.Part.{part}
 use Rattle.ps_data.specs.declared.PsIndices.{PsIndices}
 use Rattle.ps_stereo.specs.declared.PsStereo.{PsStereo}
@@ -25,11 +26,11 @@ replaced count at from to = part at count from ++ drop count to
 -- row 0 has the kept coefficients
 pub record Started (l : Layout) (matrices lent rows : List Float) : Type 0 where
   pub whole : length matrices ≡ 272
-  pub long : length lent ≡ 1360
+  pub long : length lent ≡ limits.matrices
   pub is : rows ≡ replaced (8 * bandsOf l) 0 matrices lent
 
--- the rows of at most four envelopes are to be written behind row 0
+-- the rows of the envelopes are to be written behind row 0
 pub record Ready (l : Layout) (modes : Modes) (config : Config) (indices : PsIndices) (count : ℕ) (old : PsStereo) (rows : List Float) : Type 0 where
-  pub few : count ≤ 4
-  pub long : length rows ≡ 1360
+  pub few : count ≤ limits.envelopes
+  pub long : length rows ≡ limits.matrices
   pub first : rows ≡ rowsAfter l modes config indices old 0 rows

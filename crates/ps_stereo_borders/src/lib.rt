@@ -1,19 +1,16 @@
 // The coefficients of every band at every border of a frame (source document 000, §8.6.4.6.2 and §8.6.4.6.3).
 use cue::Config;
+use cue::Header;
 use layout::Layout;
 use ps_data::PsIndices;
 use ps_stereo::PsStereo;
 use standard::Modes;
 ghost use mathlib.Core.Path.{_≡_};
 ghost use Prim.Native.Nat.{min};
+ghost use Rattle.calls.specs.Call.{modesOf};
+ghost use Rattle.limits.specs.Limits as limits;
 ghost use Rattle.ps_stereo_borders.specs.Borders.{rowsAfter, stereoAfter};
 ghost use Rattle.ps_stereo_borders.specs.Steps.{Room, replaced, Started, Ready};
-
-fn least(a: usize, b: usize) -> usize
-    ensures { λ r. ⌜ r ≡ min a b ⌝ }
-{
-    if a < b { a } else { b }
-}
 
 // The numbers from a place of a list, to the front of another.
 fn copy(count: usize, at: usize, from: &[f64], to: &mut [f64])
@@ -26,7 +23,7 @@ fn copy(count: usize, at: usize, from: &[f64], to: &mut [f64])
 }
 
 // Row 0: the coefficients kept from the frame before.
-fn start(layout: Layout, matrices: &[f64; 272], rows: &mut [f64; 1360])
+fn start(layout: Layout, matrices: &[f64; 272], rows: &mut [f64; limits::MATRICES])
     ensures { λ _. ⌜ Started layout (now (matrices .entry)) (now (rows .entry)) (now (rows .exit)) ⌝ }
 {
     let bands = layout.bands();
@@ -41,7 +38,7 @@ fn envelopes(
     indices: PsIndices,
     count: usize,
     state: PsStereo,
-    rows: &mut [f64; 1360],
+    rows: &mut [f64; limits::MATRICES],
 ) -> [i8; 136]
     requires { ⌜ Ready layout modes config indices count state (now rows) ⌝ }
     ensures state { λ r. ⌜ r ≡ stereoAfter layout modes config indices state count .phases ⌝ }
@@ -74,7 +71,7 @@ fn advance(
     indices: PsIndices,
     count: usize,
     state: PsStereo,
-    rows: &mut [f64; 1360],
+    rows: &mut [f64; limits::MATRICES],
 ) -> PsStereo
     requires { ⌜ Ready layout modes config indices count state (now rows) ⌝ }
     ensures state { λ r. ⌜ r ≡ stereoAfter layout modes config indices state count ⌝ }
@@ -90,24 +87,37 @@ fn advance(
     }
 }
 
-// The borders of at most four envelopes: the rows get the kept coefficients and those of each envelope, the state those of the last one.
+// How the coefficients of a frame are made.
+fn modes_of(header: Header) -> Modes
+    ensures { λ r. ⌜ r ≡ modesOf header ⌝ }
+{
+    let config = header.config;
+    Modes {
+        fine: config.fine(),
+        rb: config.rb(),
+        phase: header.phase,
+    }
+}
+
+// The borders of a frame's envelopes, cut to the limit: the rows get the kept coefficients and those of each envelope, the state those of the last one.
 pub fn coefficients(
     layout: Layout,
-    modes: Modes,
-    config: Config,
+    header: Header,
     indices: PsIndices,
-    count: usize,
     state: PsStereo,
-    rows: &mut [f64; 1360],
+    rows: &mut [f64; limits::MATRICES],
 ) -> PsStereo
-    ensures state { λ r. ⌜ r ≡ stereoAfter layout modes config indices state (min count 4) ⌝ }
-    ensures rows { λ _. ⌜ now (rows .exit) ≡ rowsAfter layout modes config indices state (min count 4) (now (rows .entry)) ⌝ }
+    ensures state { λ r. ⌜ r ≡ stereoAfter layout (modesOf header) (header .config) indices state (min (header .envelopes) limits.envelopes) ⌝ }
+    ensures rows { λ _. ⌜ now (rows .exit)
+        ≡ rowsAfter layout (modesOf header) (header .config) indices state (min (header .envelopes) limits.envelopes) (now (rows .entry)) ⌝ }
 {
-    let used = least(count, 4);
+    let envelopes = limits::least(header.envelopes as usize, limits::ENVELOPES);
     let matrices = state.matrices;
     start(layout, &matrices, rows);
-    if used == 0 {
+    if envelopes == 0 {
         return state;
     }
-    advance(layout, modes, config, indices, used, state, rows)
+    let config = header.config;
+    let modes = modes_of(header);
+    advance(layout, modes, config, indices, envelopes, state, rows)
 }

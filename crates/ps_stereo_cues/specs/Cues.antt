@@ -4,7 +4,7 @@ use Rattle.calls.specs.Cues.{mappedRow, mappedPhases}
 use Rattle.cue.specs.declared.Config.{Config}
 use Rattle.layout.specs.declared.Layout.{Layout}
 use Rattle.ps_data.specs.declared.PsIndices.{PsIndices}
-use Rattle.ps_stereo_envelope.specs.declared.Cues.{Cues}
+use Rattle.standard.specs.declared.Cues.{Cues}
 
 unfoldable pub cuesAt : Layout → Config → PsIndices → ℕ → Cues
 cuesAt l config indices e =

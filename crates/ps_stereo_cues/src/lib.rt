@@ -4,10 +4,9 @@ use layout::Layout;
 use ps_data::PsIndices;
 use ps_rows::Row;
 use ps_rows::Rows;
-use ps_stereo_envelope::Cues;
+use standard::Cues;
 ghost use mathlib.Core.Path.{_≡_};
 ghost use Prim.Native.Nat.{min};
-ghost use Rattle.cue.specs.Fields.{byMode};
 ghost use Rattle.calls.specs.Cues.{envelopeRow, mappedRow, mappedPhases};
 ghost use Rattle.ps_stereo_cues.specs.Cues.{cuesAt};
 
@@ -15,7 +14,7 @@ ghost use Rattle.ps_stereo_cues.specs.Cues.{cuesAt};
 fn envelope_row(kind: Rows, e: usize) -> Row
     ensures { λ r. ⌜ r ≡ envelopeRow kind e ⌝ }
 {
-    if e < 4 {
+    if e < limits::ENVELOPES {
         kind.row[e]
     } else {
         ps_rows::no_row()
@@ -26,8 +25,7 @@ fn envelope_row(kind: Rows, e: usize) -> Row
 fn used(row: Row) -> usize
     ensures { λ r. ⌜ r ≡ min (row .used) 34 ⌝ }
 {
-    let count = row.used as usize;
-    if count < 34 { count } else { 34 }
+    limits::least(row.used as usize, 34)
 }
 
 fn mapped(kind: Rows, layout: Layout, e: usize) -> [i8; 34]
@@ -40,19 +38,6 @@ fn mapped(kind: Rows, layout: Layout, e: usize) -> [i8; 34]
 }
 
 // A row of phases has 10, 20 or 34 places, by iid_mode.
-fn places(mode: u8) -> usize
-    ensures { λ r. ⌜ r ≡ byMode mode 10 20 34 ⌝ }
-{
-    let rest = mode % 3;
-    if rest == 0 {
-        return 10;
-    }
-    if rest == 1 {
-        return 20;
-    }
-    34
-}
-
 fn mapped_phases(kind: Rows, config: Config, layout: Layout, e: usize) -> [i8; 34]
     ensures { λ r. ⌜ r ≡ mappedPhases layout config kind e ⌝ }
 {
@@ -60,7 +45,7 @@ fn mapped_phases(kind: Rows, config: Config, layout: Layout, e: usize) -> [i8; 3
     let count = used(row);
     let at = row.at;
     let iid = config.iid;
-    let wanted = places(iid.mode);
+    let wanted = iid.parameters();
     let extended = ps_map::extended(&at[..count], wanted);
     ps_map::map_row(&extended[..wanted], layout)
 }

@@ -11,15 +11,16 @@ use lib.IntN.{ℤ}
 use lib.ListN.{length, take, drop, take-append-drop}
 use lib.Seq.{take-add, drop-drop}
 use Rattle.layout.specs.declared.Layout.{Layout}
-use Rattle.layout.specs.declared.Layout.the-variants.{Bands20, Bands34}
 use Rattle.layout.specs.Numbers.{bandsOf}
+use Rattle.layout.proofs.Bounds.{bounds}
+use Rattle.limits.specs.Limits as limits
 use Rattle.lists.specs.Part.{part, put}
 use Rattle.lists.specs.Rows.{rows}
 use Rattle.lists.proofs.Front.{Front, front-kept, front-long, front-put}
 use Rattle.lists.proofs.Parts.{part-length}
 use Rattle.lists.proofs.Rows.{rows-same}
 use Rattle.standard.specs.declared.Modes.{Modes}
-use Rattle.ps_stereo_envelope.specs.declared.Cues.{Cues}
+use Rattle.standard.specs.declared.Cues.{Cues}
 use Rattle.ps_stereo_envelope.specs.Envelope.{numbersAt, rowFrom, rowsAfter}
 use Rattle.ps_stereo_envelope.specs.Loops.{filled}
 
@@ -88,17 +89,13 @@ module _ (new : ℕ → List Float) (at n : ℕ) (old : List Float) where
 
 -- ---- the rows after an envelope
 
-pub few-bands : (l : Layout) → bandsOf l ≤ 34
-few-bands Bands20 = omega arith
-few-bands Bands34 = omega arith
-
 module _ (coefficients directions : List ℤ) (layout : Layout) (modes : Modes) (cues : Cues) (phases : List ℤ) (e : ℕ) (old : List Float) where
-  -- a fifth envelope has no row
-  pub rows-late : 4 ≤ e → old ≡ rowsAfter coefficients directions layout modes cues phases e old
+  -- an envelope past the last has no row
+  pub rows-late : limits.envelopes ≤ e → old ≡ rowsAfter coefficients directions layout modes cues phases e old
   unfolding rowsAfter
-  rows-late h = rw (le-ltb e 4 h)
+  rows-late h = rw (le-ltb e limits.envelopes h)
 
-  pub rows-filled : e < 4 → (bands : ℕ) → bands ≡ bandsOf layout
+  pub rows-filled : e < limits.envelopes → (bands : ℕ) → bands ≡ bandsOf layout
       → filled (numbersAt coefficients directions modes cues phases) bands (272 * (e + 1)) old ≡ rowsAfter coefficients directions layout modes cues phases e old
   unfolding rowsAfter
-  rows-filled h bands are = rw (lt-ltb e 4 h, are) (row-whole (numbersAt coefficients directions modes cues phases) (272 * (e + 1)) (bandsOf layout) old (few-bands layout))
+  rows-filled h bands are = rw (lt-ltb e limits.envelopes h, are) (row-whole (numbersAt coefficients directions modes cues phases) (272 * (e + 1)) (bandsOf layout) old (bounds layout .bands))

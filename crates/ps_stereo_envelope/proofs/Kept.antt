@@ -12,14 +12,16 @@ use lib.ListN.{length, drop, getD, take-append-drop, drop-of-length-le}
 use lib.Seq.{ext-getD, drop-drop}
 use Rattle.layout.specs.declared.Layout.{Layout}
 use Rattle.layout.specs.Numbers.{bandsOf}
+use Rattle.limits.specs.Limits as limits
 use Rattle.lists.specs.Part.{part}
 use Rattle.lists.specs.Rows.{tabulate}
 use Rattle.lists.proofs.Maps.{tabulate-length, tabulate-at}
 use Rattle.lists.proofs.Parts.{part-length, part-at}
+use Rattle.planar.specs.Frame.{ipdOf, opdOf}
 use Rattle.standard.specs.declared.Modes.{Modes}
 use Rattle.standard.specs.Mixing.{Phases, phasesAfter}
-use Rattle.ps_stereo_envelope.specs.declared.Cues.{Cues}
-use Rattle.ps_stereo_envelope.specs.Envelope.{ipdOf, opdOf, cueOf, ipdAfter, opdAfter, keptAfter}
+use Rattle.standard.specs.declared.Cues.{Cues}
+use Rattle.ps_stereo_envelope.specs.Envelope.{cueOf, ipdAfter, opdAfter, keptAfter}
 use Rattle.ps_stereo_envelope.specs.Loops.{Moved}
 
 -- ---- a list of 136 by its four parts
@@ -71,10 +73,10 @@ few-moving true bands h = h
 few-moving false bands h = omega arith
 
 module _ (layout : Layout) (modes : Modes) (cues : Cues) (phases : List ℤ) (e : ℕ) where
-  -- a fifth envelope keeps all
-  pub kept-late : 4 ≤ e → phases ≡ keptAfter layout modes cues phases e
+  -- an envelope past the last keeps all
+  pub kept-late : limits.envelopes ≤ e → phases ≡ keptAfter layout modes cues phases e
   unfolding keptAfter
-  kept-late h = rw (le-ltb e 4 h)
+  kept-late h = rw (le-ltb e limits.envelopes h)
 
   -- the others move the indices of either kind
   module _ (n : ℕ) (moving : n ≡ cond (modes .phase) (bandsOf layout) 0) where
@@ -84,11 +86,11 @@ module _ (layout : Layout) (modes : Modes) (cues : Cues) (phases : List ℤ) (e 
     after-opd : (b : ℕ) → cond (ltb b n) (record { oldest = opdOf phases b .previous; previous = cueOf cues b .opd }) (opdOf phases b) ≡ opdAfter layout modes cues phases b
     after-opd b = rw moving (picked (modes .phase) b (bandsOf layout) (opdOf phases b) (cueOf cues b .opd))
 
-    pub kept-moved : e < 4 → length phases ≡ 136 → (middle after : List ℤ) → Moved 0 n (cues .ipd) phases middle → Moved 68 n (cues .opd) middle after
+    pub kept-moved : e < limits.envelopes → length phases ≡ 136 → (middle after : List ℤ) → Moved 0 n (cues .ipd) phases middle → Moved 68 n (cues .opd) middle after
         → after ≡ keptAfter layout modes cues phases e
     unfolding keptAfter
     kept-moved in-time long middle after ipd opd =
-        rw (lt-ltb e 4 in-time) (by-quarters after _ _ _ _ (opd .long ∙ ipd .long ∙ long) oldest-ipd previous-ipd oldest-opd previous-opd)
+        rw (lt-ltb e limits.envelopes in-time) (by-quarters after _ _ _ _ (opd .long ∙ ipd .long ∙ long) oldest-ipd previous-ipd oldest-opd previous-opd)
       where
         oldest-ipd : (b : ℕ) → b < 34 → getD after b (pos 0) ≡ ipdAfter layout modes cues phases b .oldest
         oldest-ipd b u =

@@ -1,4 +1,3 @@
-pub mod Literals
 pub mod Matrices
 pub mod Moves
 pub mod Filling

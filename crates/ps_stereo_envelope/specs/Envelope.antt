@@ -9,23 +9,18 @@ use lib.Ieee.{Float}
 use lib.ListN.{getD}
 use Rattle.layout.specs.declared.Layout.{Layout}
 use Rattle.layout.specs.Numbers.{bandsOf}
+use Rattle.limits.specs.Limits as limits
 use Rattle.lists.specs.Part.{part, put}
 use Rattle.lists.specs.Rows.{rows, tabulate}
-use Rattle.planar.specs.Frame.{numbersOf}
+use Rattle.planar.specs.Frame.{numbersOf, ipdOf, opdOf}
 use Rattle.standard.specs.declared.Modes.{Modes}
 use Rattle.standard.specs.Mixing.{noMatrix, Cue, Phases, Kept, matrixFrom, phasesAfter}
-use Rattle.ps_stereo_envelope.specs.declared.Cues.{Cues}
+use Rattle.standard.specs.declared.Cues.{Cues}
 
 -- band b's indices
 abbrev pub cueOf : Cues → ℕ → Cue
 cueOf cues b =
     record { iid = getD (cues .iid) b (pos 0); icc = getD (cues .icc) b (pos 0); ipd = getD (cues .ipd) b (pos 0); opd = getD (cues .opd) b (pos 0) }
-
-abbrev pub ipdOf : List ℤ → ℕ → Phases
-ipdOf phases b = record { oldest = getD phases b (pos 0); previous = getD phases (34 + b) (pos 0) }
-
-abbrev pub opdOf : List ℤ → ℕ → Phases
-opdOf phases b = record { oldest = getD phases (68 + b) (pos 0); previous = getD phases (102 + b) (pos 0) }
 
 -- what band b keeps, but for its coefficients, which the next ones do not depend on
 abbrev pub keptOf : List ℤ → ℕ → Kept
@@ -41,10 +36,10 @@ numbersAt coefficients directions modes cues phases b = numbersOf (matrixFrom co
 abbrev pub rowFrom : (ℕ → List Float) → ℕ → ℕ → List Float → ℕ → List Float
 rowFrom new bands at old b = cond (ltb b bands) (new b) (part (at + 8 * b) 8 old)
 
--- the row of envelope e, bands that the layout lacks as they were; more than four envelopes have no row
+-- the row of envelope e, bands that the layout lacks as they were; envelopes past the last have none
 unfoldable pub rowsAfter : List ℤ → List ℤ → Layout → Modes → Cues → List ℤ → ℕ → List Float → List Float
 rowsAfter coefficients directions layout modes cues phases e old =
-    cond (ltb e 4)
+    cond (ltb e limits.envelopes)
     (put (272 * (e + 1)) 272 old (rows (rowFrom (numbersAt coefficients directions modes cues phases) (bandsOf layout) (272 * (e + 1)) old) 34))
     old
 
@@ -63,7 +58,7 @@ opdAfter layout modes cues phases b = movedIn layout modes b (opdOf phases b) (c
 -- the phase indices kept after it
 unfoldable pub keptAfter : Layout → Modes → Cues → List ℤ → ℕ → List ℤ
 keptAfter layout modes cues phases e =
-    cond (ltb e 4)
+    cond (ltb e limits.envelopes)
     (tabulate (λ b. ipdAfter layout modes cues phases b .oldest) 34
     ++ (tabulate (λ b. ipdAfter layout modes cues phases b .previous) 34
     ++ (tabulate (λ b. opdAfter layout modes cues phases b .oldest) 34

@@ -7,6 +7,7 @@ use lib.Dec.{ltb}
 use lib.Ieee.{Float}
 use lib.IntN.{ℤ, pos}
 use lib.ListN.{length, getD}
+use Rattle.limits.specs.Limits as limits
 use Rattle.lists.specs.Part.{put}
 use Rattle.lists.specs.Rows.{rows}
 use Rattle.standard.specs.Mixing.{Cue, Phases}
@@ -22,7 +23,7 @@ before oldest previous = record { oldest = oldest; previous = previous }
 -- a row has room from a place on
 pub record Room (bands at : ℕ) (rows : List Float) : Type 0 where
   pub few : bands ≤ 34
-  pub near : at ≤ 1088
+  pub near : at ≤ 272 * limits.envelopes
   pub long : at + 272 ≤ length rows
 
 -- the numbers of the first bands, from a place on

@@ -1,6 +1,7 @@
 // The mixing coefficients of every band at an envelope's border (source document 000, §8.6.4.6.2 and §8.6.4.6.3), with the history of phase indices.
 use complex::Complex;
 use layout::Layout;
+use standard::Cues;
 use standard::Matrix;
 use standard::Modes;
 ghost use mathlib.Core.Path.{_≡_};
@@ -14,15 +15,7 @@ ghost use Rattle.standard.specs.Mixing.{levelOf, unrotated, directionOf, rotate
 ghost use Rattle.ps_stereo_envelope.specs.Envelope.{keptOf, numbersAt, rowsAfter, keptAfter};
 ghost use Rattle.ps_stereo_envelope.specs.Loops.{cueIn, before, Room, filled, Moved};
 
-// The mapped indices of an envelope, for each band; 0 where a kind is absent.
-pub struct Cues {
-    pub iid: [i8; 34],
-    pub icc: [i8; 34],
-    pub ipd: [i8; 34],
-    pub opd: [i8; 34],
-}
-
-// Those of one band.
+// The mapped indices of one band.
 struct Indices {
     iid: i8,
     icc: i8,
@@ -188,7 +181,7 @@ fn moving(phase: bool, bands: usize) -> usize
     if phase { bands } else { 0 }
 }
 
-// Envelope e of at most four, from the lent tables of coefficients and directions.
+// Envelope e of a frame, from the lent tables of coefficients and directions.
 pub fn envelope(
     coefficients: &[i64; 2944],
     directions: &[i64; 1024],
@@ -197,12 +190,12 @@ pub fn envelope(
     cues: Cues,
     phases: &mut [i8; 136],
     e: usize,
-    rows: &mut [f64; 1360],
+    rows: &mut [f64; limits::MATRICES],
 )
     ensures phases { λ _. ⌜ now (phases .exit) ≡ keptAfter layout modes cues (now (phases .entry)) e ⌝ }
     ensures rows { λ _. ⌜ now (rows .exit) ≡ rowsAfter (now (coefficients .entry)) (now (directions .entry)) layout modes cues (now (phases .entry)) e (now (rows .entry)) ⌝ }
 {
-    if 4 <= e {
+    if limits::ENVELOPES <= e {
         return;
     }
     let bands = layout.bands();

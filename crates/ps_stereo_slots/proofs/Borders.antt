@@ -11,6 +11,7 @@ use lib.Dec.{leb, ltb}
 use lib.Ieee.{Float, nan}
 use lib.ListN.{length, take, getD}
 use lib.Seq.{getD-take, length-take-le, ext-getD}
+use Rattle.limits.specs.Limits as limits
 use Rattle.lists.specs.Part.{part}
 use Rattle.lists.specs.Rows.{tabulate}
 use Rattle.lists.proofs.Front.{front-long, front-at, front-ahead}
@@ -45,8 +46,8 @@ module _ (borders : List ℕ) (m : ℕ) where
 
   -- what one loop over the places writes is what the envelopes say
   pub fractions-taken : (out : List Float) → filledFractions borders m out
-      ≡ tabulate (λ i. cond (ltb (i / 32) m) (fraction (take m borders) (i / 32) (i % 32)) (getD out i nan)) 128
-  fractions-taken out = tabulate-same _ _ 128 (λ i u. by i (ltb i (32 * m)) refl)
+      ≡ tabulate (λ i. cond (ltb (i / 32) m) (fraction (take m borders) (i / 32) (i % 32)) (getD out i nan)) limits.fractions
+  fractions-taken out = tabulate-same _ _ limits.fractions (λ i u. by i (ltb i (32 * m)) refl)
     where
       by : (i : ℕ) (b : Bool) → ltb i (32 * m) ≡ b
           → cond b (fraction borders (i / 32) (i % 32)) (getD out i nan) ≡ cond (ltb (i / 32) m) (fraction (take m borders) (i / 32) (i % 32)) (getD out i nan)

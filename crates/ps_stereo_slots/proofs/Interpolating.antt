@@ -8,6 +8,7 @@ use borrow.Author.Tests.{lt-ltb}
 use lib.Dec.{ltb}
 use lib.Ieee.{Float, nan}
 use lib.ListN.{length, getD, length-take}
+use Rattle.limits.specs.Limits as limits
 use Rattle.lists.proofs.Maps.{tabulate-at}
 use Rattle.planar.specs.Cells.{overwritten}
 use Rattle.planar.specs.Frame.{matrixAt}
@@ -21,12 +22,12 @@ pub fractions-made : (borders : List ℕ) (count : ℕ) (out : List Float) → F
 unfolding fractionsAfter
 fractions-made borders count out = record { at = read }
   where
-    read : (e n : ℕ) → e < min count 4 → n < 32 → fractionAt (fractionsAfter borders count out) e n ≡ fraction (bordersOf borders count) e n
+    read : (e n : ℕ) → e < min count limits.envelopes → n < 32 → fractionAt (fractionsAfter borders count out) e n ≡ fraction (bordersOf borders count) e n
     read e n h u =
         let envelope : (32 * e + n) / 32 ≡ e = omega arith in
         let slot : (32 * e + n) % 32 ≡ n = omega arith in
-        tabulate-at (λ i. cond (ltb (i / 32) (min count 4)) (fraction (bordersOf borders count) (i / 32) (i % 32)) (getD out i nan)) 128 (32 * e + n) nan (omega arith)
-        ∙ rw (envelope, slot, lt-ltb e (min count 4) h)
+        tabulate-at (λ i. cond (ltb (i / 32) (min count limits.envelopes)) (fraction (bordersOf borders count) (i / 32) (i % 32)) (getD out i nan)) limits.fractions (32 * e + n) nan (omega arith)
+        ∙ rw (envelope, slot, lt-ltb e (min count limits.envelopes) h)
 
 -- only fractions of the frame's own envelopes are read
 filled-by : (borders : List ℕ) (t u : ℕ → ℕ → Float) (h : ℕ → Matrix) (n j : ℕ) → ((e : ℕ) → e < j → t e n ≡ u e n) → filledBy borders t h n j ≡ filledBy borders u h n j
@@ -42,7 +43,7 @@ module _ {borders : List ℕ} {count : ℕ} {fractions : List Float} (f : Fracti
   pub matrix-standard : (h : ℕ → Matrix) (n : ℕ) → n < 32 → matrixBy (bordersOf borders count) (fractionAt fractions) h n ≡ matrixIn (bordersOf borders count) h n
   matrix-standard h n u =
       matrix-by (bordersOf borders count) (fractionAt fractions) (fraction (bordersOf borders count)) h n
-      (λ e v. f .at e n (omega (arith, v, length-take (min count 4) borders)) u)
+      (λ e v. f .at e n (omega (arith, v, length-take (min count limits.envelopes) borders)) u)
 
 -- the coefficients of a band, once they are made
 pub coefficients-made : (rows fractions : List Float) (borders : List ℕ) (count slots band : ℕ) (old : List Float) → slots ≤ 32

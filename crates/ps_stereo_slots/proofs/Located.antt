@@ -8,6 +8,7 @@ use borrow.Author.Tests.{le-leb, lt-leb, leb-false, ltb-true, ltb-false, lt-ltb,
 use lib.Dec.{leb, ltb}
 use lib.Ieee.{Float}
 use lib.ListN.{length, getD}
+use Rattle.limits.specs.Limits as limits
 use Rattle.lists.proofs.Maps.{tabulate-at}
 use Rattle.standard.specs.declared.Matrix.{Matrix}
 use Rattle.standard.specs.Interpolation.{start, borderAt, between, filledBy, matrixBy}
@@ -48,9 +49,9 @@ region-within borders count n = by (leb (start borders count) n) (below-within b
     by true u = omega arith
     by false u = u
 
-pub regions-at : (borders : List ℕ) (count n : ℕ) → n < 32 → getD (regionsOf borders count) n 0 ≡ regionOf borders (min count 4) n
+pub regions-at : (borders : List ℕ) (count n : ℕ) → n < 32 → getD (regionsOf borders count) n 0 ≡ regionOf borders (min count limits.envelopes) n
 unfolding regionsOf
-regions-at borders count n u = tabulate-at (regionOf borders (min count 4)) 32 n 0 u
+regions-at borders count n u = tabulate-at (regionOf borders (min count limits.envelopes)) 32 n 0 u
 
 -- ---- what was written there
 module _ (borders : List ℕ) (t : ℕ → ℕ → Float) (h : ℕ → Matrix) (n : ℕ) where
@@ -87,10 +88,10 @@ module _ (borders : List ℕ) (t : ℕ → ℕ → Float) (h : ℕ → Matrix) (
           let past = ltb-false n (start borders m) s in
           rw (region-past borders n m past, le-leb (start borders m) n past, le-ltb m m (omega arith))
 
-pub by-region : (borders : List ℕ) (count : ℕ) → length borders ≡ 4 → (t : ℕ → ℕ → Float) (h : ℕ → Matrix) (n : ℕ)
+pub by-region : (borders : List ℕ) (count : ℕ) → length borders ≡ limits.envelopes → (t : ℕ → ℕ → Float) (h : ℕ → Matrix) (n : ℕ)
     → matrixBy (bordersOf borders count) t h n
-    ≡ cond (ltb (regionOf borders (min count 4) n) (min count 4))
-    (between (h (regionOf borders (min count 4) n)) (h (suc (regionOf borders (min count 4) n))) (t (regionOf borders (min count 4) n) n))
-    (h (min count 4))
+    ≡ cond (ltb (regionOf borders (min count limits.envelopes) n) (min count limits.envelopes))
+    (between (h (regionOf borders (min count limits.envelopes) n)) (h (suc (regionOf borders (min count limits.envelopes) n))) (t (regionOf borders (min count limits.envelopes) n) n))
+    (h (min count limits.envelopes))
 by-region borders count long t h n =
-    sym (matrix-taken borders (min count 4) t h (omega arith) n) ∙ chosen borders t h n (min count 4)
+    sym (matrix-taken borders (min count limits.envelopes) t h (omega arith) n) ∙ chosen borders t h n (min count limits.envelopes)

@@ -3,13 +3,14 @@ use Prim.Native.Nat.{ℕ, _<_, min}
 use mathlib.Core.List.{List}
 use mathlib.Core.Path.{_≡_}
 use lib.Ieee.{Float}
+use Rattle.limits.specs.Limits as limits
 use Rattle.planar.specs.Frame.{matrixAt}
 use Rattle.standard.specs.Interpolation.{fraction, matrixBy}
 use Rattle.ps_stereo_slots.specs.Slots.{bordersOf, fractionAt, borderMatrix}
 
 -- the fractions of the frame's envelopes
 pub record Fractions (borders : List ℕ) (count : ℕ) (fractions : List Float) : Type 0 where
-  pub at : (e n : ℕ) → e < min count 4 → n < 32 → fractionAt fractions e n ≡ fraction (bordersOf borders count) e n
+  pub at : (e n : ℕ) → e < min count limits.envelopes → n < 32 → fractionAt fractions e n ≡ fraction (bordersOf borders count) e n
 
 -- the coefficients of a band in the frame's slots; there is none from 34 on
 pub record Coefficients (rows fractions : List Float) (borders : List ℕ) (count slots band : ℕ) (runs : List Float) : Type 0 where

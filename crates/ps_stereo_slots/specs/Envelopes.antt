@@ -4,6 +4,7 @@ use Prim.Native.Nat.{ℕ, zero, suc, min}
 use mathlib.Core.Bool.{Bool, cond, _&&_}
 use mathlib.Core.List.{List}
 use lib.Dec.{leb}
+use Rattle.limits.specs.Limits as limits
 use Rattle.lists.specs.Rows.{tabulate}
 use Rattle.standard.specs.Interpolation.{start, borderAt}
 
@@ -20,6 +21,6 @@ regionBelow borders n (suc e) = cond (inRegion borders e n) e (regionBelow borde
 unfoldable pub regionOf : List ℕ → ℕ → ℕ → ℕ
 regionOf borders count n = cond (leb (start borders count) n) count (regionBelow borders n count)
 
--- the regions of the slots of a frame, which has at most four envelopes
+-- the regions of the slots of a frame
 unfoldable pub regionsOf : List ℕ → ℕ → List ℕ
-regionsOf borders count = tabulate (regionOf borders (min count 4)) 32
+regionsOf borders count = tabulate (regionOf borders (min count limits.envelopes)) 32

@@ -8,6 +8,7 @@ use lib.Dec.{leb, ltb}
 use lib.Ieee.{Float, nan}
 use lib.ListN.{length, getD}
 use Rattle.complex.specs.Operations.{sum, difference, scaled}
+use Rattle.limits.specs.Limits as limits
 use Rattle.lists.specs.Part.{part}
 use Rattle.lists.specs.Rows.{tabulate}
 use Rattle.planar.specs.Cells.{stored, overwritten}
@@ -23,7 +24,7 @@ pub record Started (borders : List ℕ) (e first : ℕ) : Type 0 where
 
 -- those of the first envelopes
 abbrev pub filledFractions : List ℕ → ℕ → List Float → List Float
-filledFractions borders count out = tabulate (λ i. cond (ltb i (32 * count)) (fraction borders (i / 32) (i % 32)) (getD out i nan)) 128
+filledFractions borders count out = tabulate (λ i. cond (ltb i (32 * count)) (fraction borders (i / 32) (i % 32)) (getD out i nan)) limits.fractions
 
 -- ---- a slot
 

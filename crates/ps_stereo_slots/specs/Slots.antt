@@ -6,6 +6,7 @@ use mathlib.Core.List.{List}
 use lib.Dec.{ltb}
 use lib.Ieee.{Float, nan}
 use lib.ListN.{take, getD}
+use Rattle.limits.specs.Limits as limits
 use Rattle.lists.specs.Part.{part}
 use Rattle.lists.specs.Rows.{tabulate}
 use Rattle.planar.specs.Cells.{overwritten}
@@ -13,14 +14,14 @@ use Rattle.planar.specs.Frame.{matrixAt, matrixRuns, keptMatrix}
 use Rattle.standard.specs.declared.Matrix.{Matrix}
 use Rattle.standard.specs.Interpolation.{fraction, matrixBy}
 
--- the borders of a frame, at most four
+-- the borders of a frame, cut to the limit
 abbrev pub bordersOf : List ℕ → ℕ → List ℕ
-bordersOf borders count = take (min count 4) borders
+bordersOf borders count = take (min count limits.envelopes) borders
 
 -- t of envelope e and slot n stands at 32 e + n; the places of envelopes that the frame lacks stay
 unfoldable pub fractionsAfter : List ℕ → ℕ → List Float → List Float
 fractionsAfter borders count out =
-    tabulate (λ i. cond (ltb (i / 32) (min count 4)) (fraction (bordersOf borders count) (i / 32) (i % 32)) (getD out i nan)) 128
+    tabulate (λ i. cond (ltb (i / 32) (min count limits.envelopes)) (fraction (bordersOf borders count) (i / 32) (i % 32)) (getD out i nan)) limits.fractions
 
 abbrev pub fractionAt : List Float → ℕ → ℕ → Float
 fractionAt fractions e n = getD fractions (32 * e + n) nan

@@ -4,6 +4,7 @@ use standard::Matrix;
 ghost use mathlib.Core.Path.{_≡_};
 ghost use Prim.Native.Nat.{_+_, _-_, _*_, _≤_, _<_, min, max};
 ghost use lib.ListN.{length};
+ghost use Rattle.limits.specs.Limits as limits;
 ghost use Rattle.lists.specs.Part.{part};
 ghost use Rattle.lists.specs.Rows.{tabulate};
 ghost use Rattle.planar.specs.Frame.{keptMatrix};
@@ -11,12 +12,6 @@ ghost use Rattle.standard.specs.Interpolation.{fraction};
 ghost use Rattle.ps_stereo_slots.specs.Envelopes.{inRegion, regionBelow, regionOf, regionsOf};
 ghost use Rattle.ps_stereo_slots.specs.Slots.{fractionsAfter, runsAfter};
 ghost use Rattle.ps_stereo_slots.specs.Regions.{stepOf, stepped, storedMatrix, Written, Started, interpolated, filledFractions, heldAfter};
-
-fn least(a: usize, b: usize) -> usize
-    ensures { λ r. ⌜ r ≡ min a b ⌝ }
-{
-    if a < b { a } else { b }
-}
 
 // ---- how far a slot lies on its way
 
@@ -28,8 +23,8 @@ fn after(border: u8) -> u16
 }
 
 // The first slot after the border before envelope e.
-fn first_slot(borders: [u8; 4], e: usize) -> u16
-    requires { ⌜ e < 4 ⌝ }
+fn first_slot(borders: [u8; limits::ENVELOPES], e: usize) -> u16
+    requires { ⌜ e < limits.envelopes ⌝ }
     ensures { λ r. ⌜ Started borders e r ⌝ }
 {
     if e == 0 {
@@ -51,8 +46,8 @@ fn at_least_one(a: u16) -> u16
     if a < 1 { 1 } else { a }
 }
 
-fn fraction_of(borders: [u8; 4], e: usize, n: usize) -> f64
-    requires { ⌜ (e < 4) × (n < 32) ⌝ }
+fn fraction_of(borders: [u8; limits::ENVELOPES], e: usize, n: usize) -> f64
+    requires { ⌜ (e < limits.envelopes) × (n < 32) ⌝ }
     ensures { λ r. ⌜ r ≡ fraction borders e n ⌝ }
 {
     let first = first_slot(borders, e);
@@ -61,8 +56,8 @@ fn fraction_of(borders: [u8; 4], e: usize, n: usize) -> f64
     (passed as f64) / (size as f64)
 }
 
-fn fill(borders: [u8; 4], count: usize, out: &mut [f64])
-    requires { ⌜ (count ≤ 4) × (length (now out) ≡ 128) ⌝ }
+fn fill(borders: [u8; limits::ENVELOPES], count: usize, out: &mut [f64])
+    requires { ⌜ (count ≤ limits.envelopes) × (length (now out) ≡ limits.fractions) ⌝ }
     ensures { λ _. ⌜ now (out .exit) ≡ filledFractions borders count (now (out .entry)) ⌝ }
 {
     for i in 0..32 * count {
@@ -71,18 +66,18 @@ fn fill(borders: [u8; 4], count: usize, out: &mut [f64])
 }
 
 // How far each slot lies on its way from border to border, the same for every band: made once a frame.
-pub fn fractions(borders: [u8; 4], count: usize, out: &mut [f64; 128])
+pub fn fractions(borders: [u8; limits::ENVELOPES], count: usize, out: &mut [f64; limits::FRACTIONS])
     ensures { λ _. ⌜ now (out .exit) ≡ fractionsAfter borders count (now (out .entry)) ⌝ }
 {
-    let envelopes = least(count, 4);
+    let envelopes = limits::least(count, limits::ENVELOPES);
     fill(borders, envelopes, out);
 }
 
 // ---- where a slot lies
 
 // Whether slot n lies in the region of envelope e.
-fn lies_in(borders: [u8; 4], e: usize, n: usize) -> bool
-    requires { ⌜ (e < 4) × (n < 32) ⌝ }
+fn lies_in(borders: [u8; limits::ENVELOPES], e: usize, n: usize) -> bool
+    requires { ⌜ (e < limits.envelopes) × (n < 32) ⌝ }
     ensures { λ r. ⌜ r ≡ inRegion borders e n ⌝ }
 {
     if (n as u16) < first_slot(borders, e) {
@@ -92,8 +87,8 @@ fn lies_in(borders: [u8; 4], e: usize, n: usize) -> bool
 }
 
 // The last of the first envelopes whose region has slot n.
-fn region_below(borders: [u8; 4], count: usize, n: usize) -> u8
-    requires { ⌜ (count ≤ 4) × (n < 32) ⌝ }
+fn region_below(borders: [u8; limits::ENVELOPES], count: usize, n: usize) -> u8
+    requires { ⌜ (count ≤ limits.envelopes) × (n < 32) ⌝ }
     ensures { λ r. ⌜ r ≡ regionBelow borders n count ⌝ }
 {
     let mut e = count;
@@ -107,8 +102,8 @@ fn region_below(borders: [u8; 4], count: usize, n: usize) -> u8
 }
 
 // The same, or how many envelopes there are where their borders have passed.
-fn region_at(borders: [u8; 4], count: usize, n: usize) -> u8
-    requires { ⌜ (count ≤ 4) × (n < 32) ⌝ }
+fn region_at(borders: [u8; limits::ENVELOPES], count: usize, n: usize) -> u8
+    requires { ⌜ (count ≤ limits.envelopes) × (n < 32) ⌝ }
     ensures { λ r. ⌜ r ≡ regionOf borders count n ⌝ }
 {
     if 0 < count {
@@ -119,8 +114,8 @@ fn region_at(borders: [u8; 4], count: usize, n: usize) -> u8
     count as u8
 }
 
-fn fill_regions(borders: [u8; 4], count: usize, out: &mut [u8])
-    requires { ⌜ (count ≤ 4) × (length (now out) ≡ 32) ⌝ }
+fn fill_regions(borders: [u8; limits::ENVELOPES], count: usize, out: &mut [u8])
+    requires { ⌜ (count ≤ limits.envelopes) × (length (now out) ≡ 32) ⌝ }
     ensures { λ _. ⌜ now (out .exit) ≡ tabulate (regionOf borders count) 32 ⌝ }
 {
     for n in 0..32 {
@@ -129,11 +124,11 @@ fn fill_regions(borders: [u8; 4], count: usize, out: &mut [u8])
 }
 
 // The region of each slot, the same for every band: made once a frame.
-pub fn regions(borders: [u8; 4], count: usize, out: &mut [u8; 32])
+pub fn regions(borders: [u8; limits::ENVELOPES], count: usize, out: &mut [u8; 32])
     ensures { λ _. ⌜ now (out .exit) ≡ regionsOf borders count ⌝ }
 {
-    let used = least(count, 4);
-    fill_regions(borders, used, out);
+    let envelopes = limits::least(count, limits::ENVELOPES);
+    fill_regions(borders, envelopes, out);
 }
 
 // ---- coefficients
@@ -259,13 +254,13 @@ fn envelopes(
     rows: &[f64],
     at: usize,
     fractions: &[f64],
-    borders: [u8; 4],
+    borders: [u8; limits::ENVELOPES],
     count: usize,
     slots: usize,
     out: &mut [f64],
 )
-    requires { ⌜ (length (now rows) ≡ 1360) × (at + 8 ≤ 272) × (length (now fractions) ≡ 128) ⌝ }
-    requires { ⌜ (count ≤ 4) × (slots ≤ 32) × (length (now out) ≡ 256) ⌝ }
+    requires { ⌜ (length (now rows) ≡ limits.matrices) × (at + 8 ≤ 272) × (length (now fractions) ≡ limits.fractions) ⌝ }
+    requires { ⌜ (count ≤ limits.envelopes) × (slots ≤ 32) × (length (now out) ≡ 256) ⌝ }
     ensures { λ _. ⌜ now (out .exit) ≡ heldAfter (now (rows .entry)) at (now (fractions .entry)) borders count slots (now (out .entry)) ⌝ }
 {
     let mut from = matrix_at(rows, at);
@@ -278,7 +273,7 @@ fn envelopes(
             to,
             &fractions[32 * e..32 * e + 32],
             first,
-            least(next, slots),
+            limits::least(next, slots),
             out,
         );
         from = to;
@@ -287,11 +282,11 @@ fn envelopes(
     hold(from, first, slots, out);
 }
 
-// A band of 34 over at most 32 slots and four envelopes.
+// A band of 34 over at most 32 slots, envelopes cut to the limit.
 pub fn interpolate(
-    rows: &[f64; 1360],
-    fractions: &[f64; 128],
-    borders: [u8; 4],
+    rows: &[f64; limits::MATRICES],
+    fractions: &[f64; limits::FRACTIONS],
+    borders: [u8; limits::ENVELOPES],
     count: usize,
     band: usize,
     slots: usize,
@@ -302,7 +297,7 @@ pub fn interpolate(
     if 34 <= band {
         return;
     }
-    let used = least(count, 4);
-    let within = least(slots, 32);
-    envelopes(rows, 8 * band, fractions, borders, used, within, out);
+    let used = limits::least(count, limits::ENVELOPES);
+    let slots = limits::least(slots, 32);
+    envelopes(rows, 8 * band, fractions, borders, used, slots, out);
 }

@@ -1,13 +1,6 @@
 // Numbers in bytes, the lowest byte first, and the bit patterns of floats.
-ghost use mathlib.Core.Path.{_≡_};
-ghost use Prim.Native.Nat.{_+_, _≤_, min};
+ghost use Prim.Native.Nat.{_+_, _≤_};
 ghost use lib.ListN.{length};
-
-pub fn least(a: usize, b: usize) -> usize
-    ensures { λ r. ⌜ r ≡ min a b ⌝ }
-{
-    if a < b { a } else { b }
-}
 
 fn two(a: u8, b: u8) -> u16 {
     (a as u16) + 256 * (b as u16)

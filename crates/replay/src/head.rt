@@ -1,5 +1,8 @@
-// The head of a record: 48 bytes that say what follows it.
+// The head of a record, which says what follows it.
 use crate::bytes;
+
+// Its bytes. The last eight, a call's place and count (oracle/README.md, "Streams"), are not looked at.
+pub const SIZE: usize = 56;
 
 // The most that a record may ask for. A given sample takes 12 bytes, a number of a side 8.
 pub const LINE: usize = 2048;

@@ -8,13 +8,13 @@ ghost use lib.ListN.{length};
 
 // Reads that many bytes to the front of lent memory. False where there is no room for them, or the input ends before.
 pub fn fill(memory: &mut [u8], count: usize) -> bool {
-    let most = bytes::least(count, memory.len());
+    let most = limits::least(count, memory.len());
     io::read_full(STDIN_FILENO, &mut memory[..most]) == count
 }
 
 // The next record's head, of a kind that no record has where the input ends before it.
 pub fn next_head(memory: &mut [u8]) -> Head {
-    let whole = fill(memory, 48);
+    let whole = fill(memory, head::SIZE);
     let mut head = head::read(memory);
     if !whole {
         head.kind = 255;
@@ -81,7 +81,7 @@ fn give_all(samples: &mut [f64], given: &[u8], count: usize)
 
 // The line and the samples of a call. False where the input ends before.
 pub fn load(head: Head, line: &mut [u8], bytes: &mut [u8], samples: &mut [f64]) -> bool {
-    let given = bytes::least(head.given, head::INPUT);
+    let given = limits::least(head.given, head::INPUT);
     if !fill(line, head.line) {
         return false;
     }

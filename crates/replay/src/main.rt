@@ -10,7 +10,7 @@ mod text;
 use head::Head;
 use text::Place;
 
-// Runs begun, calls of the last of them that are held, and all calls by what they answered.
+// Runs begun, calls of the last of them that agree, and all calls by what they answered.
 struct Counts {
     runs: u64,
     frames: u64,
@@ -58,10 +58,10 @@ fn play(
     left: &mut [f64],
     right: &mut [f64],
 ) -> u32 {
-    let characters = bytes::least(head.line, line.len());
-    let numbers = bytes::least(head.input, input.len());
-    let left_count = bytes::least(head.left, left.len());
-    let right_count = bytes::least(head.right, right.len());
+    let characters = limits::least(head.line, line.len());
+    let numbers = limits::least(head.input, input.len());
+    let left_count = limits::least(head.left, left.len());
+    let right_count = limits::least(head.right, right.len());
     lefasumu::lefasumu_frame(
         memory,
         &line[..characters],
@@ -97,7 +97,7 @@ fn call(
 ) -> Replay {
     let counts = before.counts;
     let answer = play_marked(memory, head, line, input, left, right);
-    let going = sides::held(place_of(counts), head, answer, bytes, left, right);
+    let going = sides::agrees(place_of(counts), head, answer, bytes, left, right);
     Replay {
         counts: counted(counts, answer),
         going: going,
@@ -131,7 +131,7 @@ fn begun(before: Replay, memory: &mut [f64], asked: usize) -> Replay {
 // The stream ends as it should.
 fn ended(before: Replay) -> Replay {
     let counts = before.counts;
-    text::held(counts.runs, counts.accepted, counts.refused, counts.quiet);
+    text::summary(counts.runs, counts.accepted, counts.refused, counts.quiet);
     let mut after = before;
     after.going = false;
     after
@@ -194,7 +194,7 @@ fn step(
 }
 
 fn main() {
-    let mut memory = [0.0; 2372];
+    let mut memory = [0.0; lefasumu::MEMORY];
     let mut line = [0u8; 2048];
     let mut bytes = [0u8; 67584];
     let mut input = [0.0; 5632];

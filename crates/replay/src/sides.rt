@@ -1,4 +1,4 @@
-// Both outputs of a call, held to what the stream says.
+// Both outputs of a call, compared with what the stream says.
 use crate::bytes;
 use crate::head;
 use crate::head::Head;
@@ -63,7 +63,7 @@ fn say_difference(at: Place, word: &[u8], side: &[f64], place: usize, wanted: &[
 
 // A side is bit for bit as the stream has it.
 fn same(at: Place, word: &[u8], side: &[f64], count: usize, wanted: &mut [u8]) -> bool {
-    let numbers = bytes::least(count, head::SIDE);
+    let numbers = limits::least(count, head::SIDE);
     if !input::fill(wanted, numbers * 8) {
         text::broken(at);
         return false;
@@ -77,7 +77,7 @@ fn same(at: Place, word: &[u8], side: &[f64], count: usize, wanted: &mut [u8]) -
 }
 
 // A call left what the stream says.
-pub fn held(
+pub fn agrees(
     at: Place,
     head: Head,
     answer: u32,

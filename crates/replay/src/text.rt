@@ -70,7 +70,7 @@ pub fn differs(at: Place, side: &[u8], place: usize, bits: u64, wanted: u64) {
     say(b"\n");
 }
 
-pub fn held(runs: u64, accepted: u64, refused: u64, quiet: u64) {
+pub fn summary(runs: u64, accepted: u64, refused: u64, quiet: u64) {
     say(b"replay: ");
     say_number(runs);
     say(b" runs held: ");

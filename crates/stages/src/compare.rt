@@ -15,7 +15,7 @@ pub struct Difference {
 }
 
 pub enum Verdict {
-    Held,
+    Same,
     // The stream ends before the frame does.
     Cut,
     // Its lengths are not those of the frame's layout and slots.
@@ -62,7 +62,7 @@ fn slot_in(n: usize, numbers: &[f64], count: usize, all: usize, bytes: &mut [u8]
             found: float_bytes::bits_of(numbers[place]),
         });
     }
-    Verdict::Held
+    Verdict::Same
 }
 
 // In the stream's order.
@@ -97,11 +97,11 @@ fn hybrid_slots(hybrid: &[f64], passes: usize, channels: usize, slots: usize) ->
 {
     for n in 0..slots {
         let found = hybrid_slot(hybrid, n, passes, channels);
-        let Verdict::Held = found else {
+        let Verdict::Same = found else {
             return found;
         };
     }
-    Verdict::Held
+    Verdict::Same
 }
 
 fn hybrid(numbers: &[f64; 3200], layout: Layout, slots: usize) -> Verdict
@@ -120,11 +120,11 @@ fn row_slots(rows: &[f64], slots: usize) -> Verdict
     for n in 0..slots {
         let at = 128 * n;
         let found = slot(n, &rows[at..at + 128], 128, 128);
-        let Verdict::Held = found else {
+        let Verdict::Same = found else {
             return found;
         };
     }
-    Verdict::Held
+    Verdict::Same
 }
 
 fn rows(numbers: &[f64; 4096], slots: usize) -> Verdict
@@ -138,14 +138,14 @@ fn synthesised(slots: usize, left: &[f64; 4096], right: &[f64; 4096]) -> Compare
     requires { ⌜ slots ≤ 32 ⌝ }
 {
     let one = rows(left, slots);
-    let Verdict::Held = one else {
+    let Verdict::Same = one else {
         return Compared {
             held: 4,
             verdict: one,
         };
     };
     let other = rows(right, slots);
-    let Verdict::Held = other else {
+    let Verdict::Same = other else {
         return Compared {
             held: 5,
             verdict: other,
@@ -168,14 +168,14 @@ fn sides(
     requires { ⌜ slots ≤ 32 ⌝ }
 {
     let one = hybrid(lefts, layout, slots);
-    let Verdict::Held = one else {
+    let Verdict::Same = one else {
         return Compared {
             held: 2,
             verdict: one,
         };
     };
     let other = hybrid(rights, layout, slots);
-    let Verdict::Held = other else {
+    let Verdict::Same = other else {
         return Compared {
             held: 3,
             verdict: other,
@@ -198,14 +198,14 @@ pub fn stages(
     requires { ⌜ slots ≤ 32 ⌝ }
 {
     let one = hybrid(samples, layout, slots);
-    let Verdict::Held = one else {
+    let Verdict::Same = one else {
         return Compared {
             held: 0,
             verdict: one,
         };
     };
     let other = hybrid(decorrelated, layout, slots);
-    let Verdict::Held = other else {
+    let Verdict::Same = other else {
         return Compared {
             held: 1,
             verdict: other,

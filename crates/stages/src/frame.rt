@@ -12,22 +12,13 @@ use ps_state::PsDecoder;
 ghost use mathlib.Core.Path.{_≡_};
 ghost use Prim.Native.Nat.{_*_, _≤_};
 ghost use lib.ListN.{length};
+ghost use Rattle.limits.specs.Limits.{digits};
 
 // The decoder after a frame, how many stages hold, and what is said of the frame.
 pub struct Checked {
     pub decoder: PsDecoder,
     pub held: usize,
     pub verdict: Verdict,
-}
-
-// An empty line leaves the layout in force.
-fn layout_in(old: Layout, header: Header) -> Layout {
-    let config = header.config;
-    if header.cued {
-        ps_data::layout_of(config)
-    } else {
-        old
-    }
 }
 
 // Numbers of a hybrid stage.
@@ -64,7 +55,7 @@ fn stopped(decoder: PsDecoder, verdict: Verdict) -> Checked {
 // A frame whose line is read, from its samples on.
 fn read_on(decoder: PsDecoder, head: Head, header: Header, resolved: Resolved) -> Checked {
     let old = decoder.layout;
-    let layout = layout_in(old, header);
+    let layout = ps_data::layout_in(old, header);
     let slots = borders::slots(decoder.asked);
     if !lengths_fit(head, layout, slots) {
         return stopped(decoder, Verdict::Lengths);
@@ -78,19 +69,19 @@ fn read_on(decoder: PsDecoder, head: Head, header: Header, resolved: Resolved) -
 }
 
 fn read_in(decoder: PsDecoder, head: Head, line: &mut [u8]) -> Checked
-    requires { ⌜ length (now line) ≡ 864 ⌝ }
+    requires { ⌜ length (now line) ≡ digits ⌝ }
 {
     let size = head.line;
-    if 864 < size {
+    if limits::DIGITS < size {
         return stopped(decoder, Verdict::Lengths);
     }
     if !stream::read_first(line, size) {
         return stopped(decoder, Verdict::Cut);
     }
-    let kept = decoder.indices;
-    let resolved = ps_data::resolve(kept, &line[..size]);
-    let said = resolved.line;
-    let Line::Read(header) = said else {
+    let lines = decoder.lines;
+    let resolved = ps_data::resolve(lines, &line[..size]);
+    let read = resolved.line;
+    let Line::Read(header) = read else {
         return stopped(decoder, Verdict::Refused);
     };
     read_on(decoder, head, header, resolved)
@@ -98,6 +89,6 @@ fn read_in(decoder: PsDecoder, head: Head, line: &mut [u8]) -> Checked
 
 // The frame after a head.
 pub fn check(decoder: PsDecoder, head: Head) -> Checked {
-    let mut line = [0u8; 864];
+    let mut line = [0u8; limits::DIGITS];
     read_in(decoder, head, &mut line)
 }

@@ -1,9 +1,10 @@
-// Holds each stage of the sound to the Rust's numbers, bit for bit. The input is what `oracle stage-runs` writes: for each accepted frame a head of 48
+// Compares each stage of the sound with the Rust's numbers, bit for bit. The input is what `oracle stage-runs` writes: for each accepted frame a head of 48
 // bytes, the cue line, the samples, and the Rust's numbers after analysis, de-correlation, mixing and synthesis. The first three are compared of the
 // all-pass channels, since the channels above those have no such stages here; left and right are compared whole. It says how many frames of each layout
 // hold at each stage, and where the first difference is.
 mod compare;
 mod frame;
+mod mix;
 mod play;
 mod ready;
 mod say;
@@ -79,7 +80,7 @@ fn started(before: Replay, head: Head) -> Replay {
 // What is said of a frame that does not hold.
 fn say_verdict(head: Head, checked: Verdict, held: usize) {
     match checked {
-        Verdict::Held => {}
+        Verdict::Same => {}
         Verdict::Cut => say::broken(head, b"the stream ends in this frame"),
         Verdict::Lengths => say::broken(head, b"the lengths are not those of its layout and slots"),
         Verdict::Refused => say::broken(head, b"its cue line is refused"),
@@ -98,7 +99,7 @@ fn play_on(before: Replay, head: Head) -> Replay {
     let counts = counted(old, layout, checked.held);
     replay.decoder = after;
     replay.counts = counts;
-    if let Verdict::Held = verdict {
+    if let Verdict::Same = verdict {
         replay.frames = std::num::wrapping_add_u64(replay.frames, 1);
         return replay;
     }

@@ -5,13 +5,11 @@ use super::frame::Checked;
 use super::sound;
 use cue::Header;
 use layout::Layout;
-use ps_data::PsIndexState;
-use ps_data::PsIndices;
+use ps_data::PsLines;
 use ps_data::Resolved;
 use ps_decorr::PsDecorr;
 use ps_state::PsDecoder;
 use ps_stereo::PsStereo;
-use standard::Modes;
 ghost use mathlib.Core.Path.{_≡_};
 ghost use Prim.Native.Nat.{_≤_};
 ghost use lib.ListN.{length};
@@ -48,46 +46,12 @@ fn hear(state: PsDecoder, slots: usize, input: &[f64]) -> Heard {
     }
 }
 
-// How the coefficients of a frame are made.
-fn modes(header: Header) -> Modes {
-    let config = header.config;
-    let iid = config.iid;
-    let icc = config.icc;
-    Modes {
-        fine: 3 <= iid.mode,
-        rb: 3 <= icc.mode,
-        phase: header.phase,
-    }
-}
-
-// The coefficients at the borders, and the state of mixing after them.
-fn coefficients(
-    state: PsDecoder,
-    header: Header,
-    indices: PsIndices,
-    rows: &mut [f64; 1360],
-) -> PsStereo {
-    let layout = state.layout;
-    let stereo = state.stereo;
-    let config = header.config;
-    let envelopes = header.envelopes as usize;
-    ps_stereo_borders::coefficients(
-        layout,
-        modes(header),
-        config,
-        indices,
-        envelopes,
-        stereo,
-        rows,
-    )
-}
-
 // Every all-pass channel's left and right.
 fn mix(
     state: PsDecoder,
     header: Header,
-    positions: [u8; 4],
-    rows: &[f64; 1360],
+    positions: [u8; limits::ENVELOPES],
+    rows: &[f64; limits::MATRICES],
     samples: &[f64; 3200],
     gains: &[f64; 1088],
     decorrelated: &[f64; 3200],
@@ -116,7 +80,7 @@ fn mix(
 fn after(
     ready: PsDecoder,
     cued: bool,
-    indices: PsIndexState,
+    lines: PsLines,
     history: [f64; 60],
     decorr: PsDecorr,
     stereo: PsStereo,
@@ -125,9 +89,8 @@ fn after(
     PsDecoder {
         asked: ready.asked,
         layout: layout,
-        configured: true,
         cued: cued,
-        indices: indices,
+        lines: lines,
         history: history,
         decorr: decorr,
         stereo: stereo,
@@ -137,11 +100,11 @@ fn after(
 // The plain delays over their memory, into the frame's rows of both sides.
 fn delays(
     layout: Layout,
-    borders: [u8; 4],
+    borders: [u8; limits::ENVELOPES],
     envelopes: usize,
     input: &[f64],
     gains: &[f64; 1088],
-    rows: &[f64; 1360],
+    rows: &[f64; limits::MATRICES],
     long: &mut [f64; 336],
     short: &mut [f64; 58],
     slots: usize,
@@ -170,10 +133,10 @@ fn delays(
 fn synthesise(
     state: PsDecoder,
     header: Header,
-    positions: [u8; 4],
+    positions: [u8; limits::ENVELOPES],
     input: &[f64],
     gains: &[f64; 1088],
-    rows: &[f64; 1360],
+    rows: &[f64; limits::MATRICES],
     lefts: &[f64; 3200],
     rights: &[f64; 3200],
     long: &mut [f64; 336],
@@ -236,8 +199,9 @@ pub fn play(ready: PsDecoder, header: Header, resolved: Resolved, input: &[f64])
     let mut decorrelated = heard.decorrelated;
     let indices = resolved.indices;
     let positions = resolved.positions;
-    let mut rows = [0.0; 1360];
-    let stereo = coefficients(ready, header, indices, &mut rows);
+    let mut rows = [0.0; limits::MATRICES];
+    let kept = ready.stereo;
+    let stereo = ps_stereo_borders::coefficients(layout, header, indices, kept, &mut rows);
     let mut lefts = [0.0; 3200];
     let mut rights = [0.0; 3200];
     mix(
@@ -282,7 +246,7 @@ pub fn play(ready: PsDecoder, header: Header, resolved: Resolved, input: &[f64])
         &right,
     );
     let verdict = found.verdict;
-    let kept = resolved.state;
+    let lines = resolved.lines;
     let history = heard.history;
     let delays = heard.delays;
     let detectors = heard.detectors;
@@ -293,7 +257,7 @@ pub fn play(ready: PsDecoder, header: Header, resolved: Resolved, input: &[f64])
         detectors: detectors,
     };
     Checked {
-        decoder: after(ready, header.cued, kept, history, memory, stereo),
+        decoder: after(ready, header.cued, lines, history, memory, stereo),
         held: found.held,
         verdict: verdict,
     }

@@ -1,22 +1,10 @@
 // The decoder made ready for a frame: its arrays are lent to the state's own function, and put back.
 use layout::Layout;
-use ps_decorr::PsDecorr;
-use ps_state::PsCarried;
 use ps_state::PsDecoder;
 
 // A state before a frame of a layout.
 pub fn made_ready(decoder: PsDecoder, layout: Layout, edge: usize) -> PsDecoder {
-    let old = decoder.layout;
-    let rows = decoder.indices;
-    let coefficients = decoder.stereo;
-    let carried = PsCarried {
-        asked: decoder.asked,
-        layout: old,
-        configured: decoder.configured,
-        cued: decoder.cued,
-        indices: rows,
-        stereo: coefficients,
-    };
+    let carried = ps_state::apart(decoder);
     let mut history = decoder.history;
     let decorr = decoder.decorr;
     let mut delays = decorr.delays;
@@ -33,21 +21,5 @@ pub fn made_ready(decoder: PsDecoder, layout: Layout, edge: usize) -> PsDecoder 
         &mut short,
         &mut detectors,
     );
-    let indices = after.indices;
-    let stereo = after.stereo;
-    PsDecoder {
-        asked: after.asked,
-        layout: layout,
-        configured: after.configured,
-        cued: after.cued,
-        indices: indices,
-        history: history,
-        decorr: PsDecorr {
-            delays: delays,
-            long: long,
-            short: short,
-            detectors: detectors,
-        },
-        stereo: stereo,
-    }
+    ps_state::together(after, history, delays, long, short, detectors)
 }

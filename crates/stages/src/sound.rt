@@ -114,7 +114,7 @@ fn mix_channel(
     let marked = ps_map::conjugated(layout, k);
     let mut one = [0.0; 64];
     let mut other = [0.0; 64];
-    ps_stereo_mix::mix(
+    crate::mix::mix(
         runs,
         marked,
         samples,
@@ -133,10 +133,10 @@ fn mix_channel(
 // Every channel, with its band's coefficients in each slot.
 fn mix_all(
     layout: Layout,
-    borders: [u8; 4],
+    borders: [u8; limits::ENVELOPES],
     count: usize,
-    rows: &[f64; 1360],
-    fractions: &[f64; 128],
+    rows: &[f64; limits::MATRICES],
+    fractions: &[f64; limits::FRACTIONS],
     samples: &[f64; 3200],
     decorrelated: &[f64],
     gains: &[f64; 1088],
@@ -169,9 +169,9 @@ fn mix_all(
 
 pub fn mix(
     layout: Layout,
-    borders: [u8; 4],
+    borders: [u8; limits::ENVELOPES],
     count: usize,
-    rows: &[f64; 1360],
+    rows: &[f64; limits::MATRICES],
     samples: &[f64; 3200],
     decorrelated: &[f64; 3200],
     gains: &[f64; 1088],
@@ -179,7 +179,7 @@ pub fn mix(
     left: &mut [f64; 3200],
     right: &mut [f64; 3200],
 ) {
-    let mut fractions = [0.0; 128];
+    let mut fractions = [0.0; limits::FRACTIONS];
     ps_stereo_slots::fractions(borders, count, &mut fractions);
     mix_all(
         layout,

@@ -4,15 +4,14 @@ use Prim.Native.Nat.{ℕ, zero, suc, _+_, _-_, _≤_, _<_}
 use native.Mathlib.Nat.{le-refl}
 use native.Mathlib.Omega.{arith}
 use mathlib.Core.Path.{_≡_, refl, sym, ap, _∙_}
-use mathlib.Core.Bool.{Bool, true, false, cond}
-use lib.Dec.{ltb}
+use mathlib.Core.Bool.{true}
 use borrow.Author.Tests.{le-ltb}
 use Rattle.complex.specs.declared.Complex.{Complex}
 use Rattle.layout.specs.declared.Layout.{Layout}
 use Rattle.layout.specs.declared.Layout.the-variants.{Bands20, Bands34}
 use Rattle.layout.specs.Numbers.{channelsOf, splitOf, unsplitFromOf}
 use Rattle.ps_map.specs.Bands.{bandOf}
-use Rattle.standard.specs.Core.{Head, Frame, Core, fresh, sameLayout, switched, clearFrom, cleared, ready, after, next, before, left, right}
+use Rattle.standard.specs.Core.{Head, Frame, Core, fresh, sameLayout, switched, cleared, ready, after, next, before, left, right}
 use Rattle.standard.specs.Hybrid.{synthesised}
 use Rattle.standard.specs.Isolation.{Same, Heard}
 use Rattle.standard.proofs.Frames.{Agree, left-same, right-same, after-same}
@@ -38,7 +37,7 @@ switched-layout l s = go (s .layout) l refl
     go Bands34 Bands20 e = rw e
     go Bands34 Bands34 e = rw e
 
-ready-layout : (head : Head) (s : Core) → ready head s .layout ≡ head .layout
+pub ready-layout : (head : Head) (s : Core) → ready head s .layout ≡ head .layout
 unfolding ready
 ready-layout head s = switched-layout (head .layout) s
 

@@ -78,14 +78,14 @@ joinedTo l p x n k (suc q) =
     cond (eqb (channelFor l p q) k) (sum (joinedTo l p x n k q) (filtered (prototypeFor l p) q x n)) (joinedTo l p x n k q)
 
 -- the first hybrid channel of a split band, and that of the band after it
-abbrev pub spanOf : Layout → ℕ → ℕ
-spanOf Bands20 p = getD (0 ∷ 6 ∷ 8 ∷ []) p 10
-spanOf Bands34 p = getD (0 ∷ 12 ∷ 20 ∷ 24 ∷ 28 ∷ []) p 32
+abbrev pub firstChannelOf : Layout → ℕ → ℕ
+firstChannelOf Bands20 p = getD (0 ∷ 6 ∷ 8 ∷ []) p 10
+firstChannelOf Bands34 p = getD (0 ∷ 12 ∷ 20 ∷ 24 ∷ 28 ∷ []) p 32
 
 -- the split QMF band of a channel
 abbrev pub bandBelow : Layout → ℕ → ℕ → ℕ
 bandBelow l k zero = 0
-bandBelow l k (suc p) = cond (ltb k (spanOf l (suc p))) (bandBelow l k p) (suc p)
+bandBelow l k (suc p) = cond (ltb k (firstChannelOf l (suc p))) (bandBelow l k p) (suc p)
 
 -- hybrid sample n of channel k, from the slots of each QMF band with six slots of history before the frame: an unsplit band passes unchanged
 unfoldable pub hybrid : Layout → (ℕ → ℕ → Complex) → ℕ → ℕ → Complex
@@ -104,4 +104,4 @@ addedTo y from (suc count) = sum (addedTo y from count) (y (from + count))
 -- QMF band q of a slot
 unfoldable pub synthesised : Layout → (ℕ → Complex) → ℕ → Complex
 synthesised l y q =
-    cond (ltb q (splitOf l)) (addedTo y (spanOf l q) (spanOf l (suc q) - spanOf l q)) (y (q + unsplitFromOf l - splitOf l))
+    cond (ltb q (splitOf l)) (addedTo y (firstChannelOf l q) (firstChannelOf l (suc q) - firstChannelOf l q)) (y (q + unsplitFromOf l - splitOf l))

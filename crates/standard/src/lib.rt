@@ -30,3 +30,11 @@ pub struct Modes {
     pub rb: bool,
     pub phase: bool,
 }
+
+// The mapped indices of an envelope, for each band; 0 where a kind is absent.
+pub struct Cues {
+    pub iid: [i8; 34],
+    pub icc: [i8; 34],
+    pub ipd: [i8; 34],
+    pub opd: [i8; 34],
+}

@@ -5,7 +5,8 @@ use Prim.Native.Nat.{ℕ, _-_, _≤_}
 use borrow.Author.Needs.{needs}
 use native.Mathlib.Omega.{arith}
 use lib.ListN.{replicate}
-use Rattle.lists.proofs.Held.{held-written}
+use Rattle.limits.specs.Limits as limits
+use Rattle.lists.proofs.Padded.{padded-written}
 use Rattle.lists.proofs.Maps.{Tabulated, tabulated-none, tabulated-more}
 use Rattle.borders.specs.Borders.{borderOf}
 use Rattle.borders.proofs.borders.Statement.{statement}
@@ -13,7 +14,7 @@ use Rattle.borders.proofs.borders.Tie as tie
 
 record Inv (border : ℕ → ℕ) (count : ℕ) (out : List ℕ) (e : ℕ) : Type 0 where
   pub within : e ≤ count
-  pub written : Tabulated border e (replicate 4 0) out
+  pub written : Tabulated border e (replicate limits.envelopes 0) out
 
 abbrev Inv-loop : tie.InvT-loop
 Inv-loop asked variable envelopes positions within count out₀ e₀ out e = Inv (borderOf within variable count positions) count out e
@@ -22,7 +23,7 @@ abbrev μ-loop : tie.MeasureT-loop
 μ-loop asked variable envelopes positions within count out₀ e₀ out e = count - e
 
 loop-holds : tie.Need-loop-holds Inv-loop μ-loop
-loop-holds c = record { within = omega arith; written = tabulated-none _ (replicate 4 0) }
+loop-holds c = record { within = omega arith; written = tabulated-none _ (replicate limits.envelopes 0) }
 
 border-requires : tie.Need-border-requires Inv-loop μ-loop
 border-requires c κs = (
@@ -42,7 +43,7 @@ returns c =
     let v = c .before .loop .inv in
     let few = c .before .before .least .ensures in
     let all : c .before .loop .e ≡ c .before .before .least .result = omega arith in
-    held-written 0 4 (v .written .front) (omega (arith, few)) ∙ rw (all, few, c .before .before .before .slots .ensures)
+    padded-written 0 limits.envelopes (v .written .front) (omega (arith, few)) ∙ rw (all, few, c .before .before .before .slots .ensures)
 
 pub borders-spec : {M : Type 1} → statement M
 borders-spec =

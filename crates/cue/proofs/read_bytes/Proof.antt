@@ -1,109 +1,105 @@
 -- `cue::read_bytes` meets its contract: each return is the case of `readBytes` that its tests pick. Assumes nothing.
 use borrow.Author.Needs.{needs}
-use borrow.Author.Tests.{eq-eqb, ne-eqb, not-true, not-false}
+use borrow.Author.Tests.{eq-eqb, ne-eqb}
 use mathlib.Core.Path.{_≡_, sym, ap, _∙_}
 use mathlib.Core.Bool.{true}
 use mathlib.Core.List.{List}
-use Prim.Native.Nat.{ℕ}
+use Prim.Native.Nat.{ℕ, _*_, _≤_}
+use native.Mathlib.Omega.{arith}
 use lib.Dec.{eqb}
+use Rattle.cue.specs.declared.Cue.{Cue}
+use Rattle.cue.specs.declared.Found.the-variants.{Nothing}
 use Rattle.cue.specs.declared.Header.{Header}
-use Rattle.cue.specs.declared.Places.{Places}
 use Rattle.cue.specs.declared.Line.the-variants.{Read}
-use Rattle.cue.specs.Fields.{headerFits, headerOf, placesOf, bordersFit, rowsFit}
-use Rattle.cue.specs.Line.{readBytes}
+use Rattle.cue.specs.declared.Places.{Places}
+use Rattle.cue.specs.Checks.{found, headChecks, bodyChecks}
+use Rattle.cue.specs.Fields.{headerOf, placesOf}
+use Rattle.cue.specs.Line.{cueOf, readBytes}
+use Rattle.cue.proofs.Sizes.{places-near}
 use Rattle.cue.proofs.read_bytes.Statement.{statement}
 use Rattle.cue.proofs.read_bytes.Tie as tie
 
 -- ---- what was read before the length is looked at
 
-module _ (c : tie.After-struct-known) where
-  abbrev head : tie.Else1
-  head = c .before .before .before .before
+module _ (c : tie.After-places) where
+  abbrev head : tie.After-enum-told
+  head = c .before .before .before
 
-  abbrev count : ℕ
-  count = head .before .before .before .args .count
+  abbrev digits : ℕ
+  digits = head .before .before .before .before .args .digits
 
   abbrev bytes : List ℕ
-  bytes = head .before .before .before .args .t2
+  bytes = head .before .before .before .before .args .t2
 
-  head-fits : headerFits bytes ≡ true
-  head-fits = sym (head .before .header-fits .ensures) ∙ not-false _ (head .if1 .left)
+  head-fits : found bytes headChecks ≡ Nothing
+  head-fits = sym (head .before .before .first-bad-head .ensures) ∙ head .enum-told .given .1
 
-  header-is : c .before .before .header .result ≡ headerOf bytes
-  header-is = c .before .before .header .ensures
+  header-is : c .before .header .result ≡ headerOf bytes
+  header-is = c .before .header .ensures
 
-  end-is : eqb count (c .before .places .result .end) ≡ eqb count (placesOf (headerOf bytes) .end)
-  end-is = ap (λ (p : Places). eqb count (p .end)) (c .before .places .ensures ∙ ap placesOf header-is)
+  places-are : c .places .result ≡ placesOf (headerOf bytes)
+  places-are = c .places .ensures ∙ ap placesOf header-is
 
--- ---- what each later test tells
+  few : c .before .header .result .envelopes ≤ 255
+  few = search needs
 
-length-fits : (c : tie.Else2) → eqb (count (c .before)) (placesOf (headerOf (bytes (c .before))) .end) ≡ true
-length-fits c = sym (end-is (c .before)) ∙ eq-eqb _ _ (c .if2 .left)
+  near : c .places .result .end ≤ 65536
+  near = rw (c .places .ensures) (places-near (c .before .header .result) few .end)
 
-borders-are : (c : tie.After-borders-fit) → let k = c .before .before .before in bordersFit (headerOf (bytes k)) (bytes k) ≡ c .borders-fit .result
-borders-are c =
-    let k = c .before .before .before in
-    sym (c .borders-fit .ensures ∙ ap (λ (h : Header). bordersFit h (bytes k)) (header-is k))
+  end-is : eqb digits (2 * c .places .result .end) ≡ eqb digits (2 * placesOf (headerOf bytes) .end)
+  end-is = ap (λ (p : Places). eqb digits (2 * p .end)) places-are
 
-rows-are : (c : tie.After-rows-fit) → let k = c .before .before .before .before .before .before in rowsFit (headerOf (bytes k)) (bytes k) ≡ c .rows-fit .result
-rows-are c =
-    let k = c .before .before .before .before .before .before in
-    sym (c .rows-fit .ensures ∙ ap (λ (h : Header). rowsFit h (bytes k)) (header-is k))
+short : tie.Need-mul-if1
+short c = omega (arith, near (c .before))
+
+-- ---- what the later tests tell
+
+length-fits : (c : tie.Else1) → let p = c .before .before in eqb (digits p) (2 * placesOf (headerOf (bytes p)) .end) ≡ true
+length-fits c = sym (end-is (c .before .before)) ∙ eq-eqb _ _ (c .if1 .left)
+
+abbrev at-places : tie.After-first-bad-field → tie.After-places
+at-places f = f .before .before .before .before
+
+fields-are : (f : tie.After-first-bad-field) → let p = at-places f in found (bytes p) (bodyChecks (headerOf (bytes p))) ≡ f .first-bad-field .result
+fields-are f =
+    let p = at-places f in
+    sym (f .first-bad-field .ensures ∙ ap (λ (h : Header). found (bytes p) (bodyChecks h)) (header-is p))
 
 -- ---- the cases
 
 header-fails : tie.Need-returns
 unfolding readBytes
-header-fails c = c .refuse .ensures ∙ rw (sym (c .before .before .header-fits .ensures) ∙ not-true _ (c .before .if1 .taken))
+header-fails c =
+    let told = c .before in
+    c .refuse .ensures ∙ rw (sym (told .before .before .first-bad-head .ensures) ∙ told .enum-told2 .given .1)
 
 other-length : tie.Need-returns-2
 unfolding readBytes
 other-length c =
-    let k = c .before .before in
-    c .refuse2 .ensures ∙ rw (head-fits k, sym (end-is k) ∙ ne-eqb _ _ (c .before .if2 .taken))
+    let p = c .before .before .before in
+    c .refuse2 .ensures ∙ rw (head-fits p, sym (end-is p) ∙ ne-eqb _ _ (c .before .if1 .taken))
 
-border-fails : tie.Need-returns-3
+field-fails : tie.Need-returns-3
 unfolding readBytes
-border-fails c =
-    let b = c .before .before in
-    let e = b .before .before in
-    c .refuse3 .ensures ∙ rw (head-fits (e .before), length-fits e, borders-are b ∙ not-true _ (c .before .if3 .taken))
+field-fails c =
+    let f = c .before .before .before in
+    c .refuse3 .ensures ∙ rw (head-fits (at-places f), length-fits (f .before .before), fields-are f ∙ c .before .enum-told4 .given .1)
 
-row-fails : tie.Need-returns-4
-unfolding readBytes
-row-fails c =
-    let r = c .before .before in
-    let d = r .before .before in
-    let e = d .before .before .before in
-    c .refuse4 .ensures
-    ∙ rw (head-fits (e .before), length-fits e, borders-are (d .before) ∙ not-false _ (d .if3 .left), rows-are r ∙ not-true _ (c .before .if4 .taken))
+same : (h k : Header) (p : Places) (bytes : List ℕ) → h ≡ k → p ≡ placesOf k → _≡_ {A = Cue} (record { line = Read h; places = p; bytes = bytes }) (cueOf k bytes)
+same h k p bytes e f = rw (e, f)
 
-line-read : tie.Need-returns-5
+line-read : tie.Need-returns-4
 unfolding readBytes
 line-read c =
-    let r = c .before in
-    let d = r .before .before in
-    let e = d .before .before .before in
-    ap (λ (h : Header). record { line = Read h; bytes = bytes (e .before) }) (header-is (e .before))
-    ∙ rw (head-fits (e .before), length-fits e, borders-are (d .before) ∙ not-false _ (d .if3 .left), rows-are r ∙ not-false _ (c .if4 .left))
+    let f = c .before .before in
+    let p = at-places f in
+    same _ _ _ (bytes p) (header-is p) (places-are p)
+    ∙ rw (head-fits p, length-fits (f .before .before), fields-are f ∙ c .enum-told3 .given .1)
 
 pub read-bytes-spec : {M : Type 1} → statement M
 read-bytes-spec =
     tie.close
     (tie.spec
-    (λ c κs. search needs)
-    (λ c κs. search needs)
-    header-fails
-    (λ c κs. search needs)
-    (λ c κs. search needs)
-    (λ c κs. search needs)
-    other-length
-    (λ c. search needs)
-    (λ c κs. search needs)
-    (λ c κs. search needs)
-    border-fails
-    (λ c. search needs)
-    (λ c κs. search needs)
-    (λ c κs. search needs)
-    row-fails
-    line-read)
+    (λ c κs. search needs) (λ c. search needs) (λ c. search needs) (λ c κs. search needs) header-fails
+    (λ c κs. search needs) (λ c κs. search needs) short (λ c κs. search needs) other-length
+    (λ c κs. search needs) (λ c. search needs) (λ c. search needs) (λ c κs. search needs) field-fails line-read)

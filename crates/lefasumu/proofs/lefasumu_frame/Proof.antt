@@ -1,5 +1,6 @@
 -- `lefasumu::lefasumu_frame` meets its contract: the memory is stored after answer 0 alone. Assumes nothing.
 use borrow.Author.Needs.{needs}
+use Rattle.answer.proofs.Refused.{not-done}
 use Rattle.calls.specs.Call.{Call}
 use Rattle.ps_decoder.specs.Frame.{callOf}
 use Rattle.lefasumu.proofs.Calls.{call-refused, loads, accepted, refused}
@@ -13,12 +14,12 @@ made s = callOf (s .args .line .now) (s .args .input .now) (s .args .edge) (s .a
 other-length : tie.Need-returns
 other-length c =
     let start = c .before .before .before .before .before .before .before in
-    call-refused (start .args .memory .now) (made start) _ (c .before .numbers .ensures) (c .if1 .taken)
+    call-refused (start .args .memory .now) (made start) _ (c .before .if1 .taken) (c .told .ensures)
 
 -- the way to the answer
-module _ (number : tie.After-number) where
+module _ (answered : tie.After-slice-known5) where
   abbrev frame : tie.After-lent-frame
-  frame = number .before .before .before .before .before
+  frame = answered .before .before .before .before
 
   abbrev load : tie.After-load
   load = frame .before .before .before .before .before .before .before .before
@@ -27,30 +28,30 @@ module _ (number : tie.After-number) where
   tested = load .before .before .before .before .before .before .before
 
   abbrev start : tie.Start
-  start = tested .before .before .before .before .before .before .before
+  start = tested .before .before .before .before .before .before
 
-done : tie.Need-returns-2
+not-accepted : tie.Need-returns-2
+not-accepted c =
+    let a = c .before .before in
+    let m = start a .args .memory .now in
+    let long = tested a .if1 .left in
+    let told = frame a .lent-frame .ensures in
+    refused m (made (start a)) _ _ _ _ _ long (loads m _ _ _ _ _ _ long (load a .load .ensures)) (told .0) (told .1 .0) (told .1 .1) (c .told2 .ensures)
+    (not-done (frame a .lent-frame .result .answer) (c .before .match .keys2))
+
+done : tie.Need-returns-3
 done c =
-    let store = c .before .before in
-    let answered = store .before .before .before .before .before .before .before .before in
-    let n = answered .before in
-    let long = tested n .before .numbers .ensures in
-    let held = loads (start n .args .memory .now) _ _ _ _ _ _ _ long (tested n .if1 .left) (load n .load .ensures) in
-    let told = frame n .lent-frame .ensures in
-    accepted (start n .args .memory .now) (made (start n)) _ _ _ _ _ held (told .0) (told .1 .0) (told .1 .1) (n .number .ensures) _ long (tested n .if1 .left)
-    (answered .if2 .taken) _ (store .store .ensures)
-
-not-done : tie.Need-returns-3
-not-done c =
-    let n = c .before in
-    let long = tested n .before .numbers .ensures in
-    let held = loads (start n .args .memory .now) _ _ _ _ _ _ _ long (tested n .if1 .left) (load n .load .ensures) in
-    let told = frame n .lent-frame .ensures in
-    refused (start n .args .memory .now) (made (start n)) _ _ _ _ _ held (told .0) (told .1 .0) (told .1 .1) (n .number .ensures) _ long (tested n .if1 .left)
-    (c .if2 .left)
+    let store = c .before .before .before in
+    let taken = store .before .before .before .before .before .before .before .before in
+    let a = taken .before .before in
+    let m = start a .args .memory .now in
+    let long = tested a .if1 .left in
+    let told = frame a .lent-frame .ensures in
+    accepted m (made (start a)) _ _ _ _ _ long (loads m _ _ _ _ _ _ long (load a .load .ensures)) (told .0) (told .1 .0) (told .1 .1) (c .told3 .ensures)
+    (taken .enum-told .given .1) _ (store .store .ensures)
 
 pub lefasumu-frame-spec : {M : Type 1} → statement M
 lefasumu-frame-spec =
     tie.close
-    (tie.spec (λ c κs. search needs) other-length (λ c κs. search needs) (λ c κs. search needs) (λ c κs. search needs) (λ c κs. search needs) (λ c. search needs)
-    (λ c. search needs) (λ c. search needs) done (λ c. search needs) (λ c. search needs) (λ c. search needs) (λ c. search needs) not-done)
+    (tie.spec (λ c κs. search needs) other-length (λ c κs. search needs) (λ c κs. search needs) (λ c. search needs) (λ c κs. search needs) (λ c. search needs)
+    (λ c. search needs) (λ c. search needs) not-accepted (λ c κs. search needs) (λ c κs. search needs) (λ c. search needs) (λ c. search needs) (λ c. search needs) done)

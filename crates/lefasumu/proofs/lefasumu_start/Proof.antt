@@ -6,20 +6,21 @@ use Rattle.lefasumu.proofs.lefasumu_start.Tie as tie
 
 refused : tie.Need-returns
 refused c =
-    let a = c .before .before .before in
-    start-refused (a .args .memory .now) (a .args .slots) _ (c .before .numbers .ensures) (c .if1 .taken)
+    let start = c .before .before .before in
+    start-refused (start .args .memory .now) (start .args .slots) _ (c .before .if1 .taken) (c .told .ensures)
 
 done : tie.Need-returns-2
 done c =
-    let store = c .before .before in
+    let store = c .before .before .before in
     let detectors = store .before .before .before .before .before .before .before in
-    let fresh = detectors .before .before .before .before .before .before .before .before in
+    let apart = detectors .before .before .before .before .before .before in
+    let fresh = apart .before in
     let tested = fresh .before in
-    let start = tested .before .before .before in
-    start-done (start .args .memory .now) (start .args .slots) _ (fresh .fresh .result) _ (tested .before .numbers .ensures) (tested .if1 .left) (fresh .fresh .ensures)
-    (store .store .ensures)
+    let start = tested .before .before in
+    start-done (start .args .memory .now) (start .args .slots) _ (tested .if1 .left) (c .told2 .ensures) (fresh .fresh .result) (apart .apart .result) _
+    (fresh .fresh .ensures) (apart .apart .ensures) (store .store .ensures)
 
 pub lefasumu-start-spec : {M : Type 1} → statement M
 lefasumu-start-spec =
     tie.close
-    (tie.spec (λ c κs. search needs) refused (λ c κs. search needs) (λ c κs. search needs) (λ c. search needs) done)
+    (tie.spec (λ c κs. search needs) refused (λ c κs. search needs) (λ c κs. search needs) (λ c κs. search needs) (λ c κs. search needs) (λ c. search needs) done)

@@ -5,10 +5,10 @@ use Rattle.mixing_table.proofs.level_place.Statement.{statement}
 use Rattle.mixing_table.proofs.level_place.Tie as tie
 
 fine : tie.Need-returns
-fine c = (rw (c .before .if1 .taken, c .at-most .ensures), omega (arith, c .at-most .ensures))
+fine c = (rw (c .before .if1 .taken, c .least .ensures), omega (arith, c .least .ensures))
 
 coarse : tie.Need-returns-2
-coarse c = (rw (c .before .if1 .left, c .at-most2 .ensures), omega (arith, c .at-most2 .ensures))
+coarse c = (rw (c .before .if1 .left, c .least2 .ensures), omega (arith, c .least2 .ensures))
 
 pub level-place-spec : {M : Type 1} → statement M
 level-place-spec = tie.close (tie.spec (λ c κs. search needs) (λ c. search needs) (λ c κs. search needs) fine coarse)

@@ -3,12 +3,15 @@ use borrow.Author.Needs.{needs}
 use lib.ListN.{length}
 use lib.Seq.{length-take-le}
 use mathlib.Core.Path.{_≡_, sym}
+use Prim.Native.Nat.{_+_}
 use native.Mathlib.Omega.{arith}
+use Rattle.ps_memory.specs.Place.{numbers}
+use Rattle.limits.specs.Limits.{digits}
 use Rattle.player.proofs.play.Statement.{statement}
 use Rattle.player.proofs.play.Tie as tie
 
 abbrev Inv-loop : tie.InvT-loop
-Inv-loop line₀ memory₀ input₀ piece₀ run₀ turns₀ line memory input piece run turns = (865 ≡ length line) × (4864 ≡ length input) × (65536 ≡ length piece) × (2372 ≡ length memory)
+Inv-loop line₀ memory₀ input₀ piece₀ run₀ turns₀ line memory input piece run turns = (digits + 1 ≡ length line) × (4864 ≡ length input) × (65536 ≡ length piece) × (numbers ≡ length memory)
 
 abbrev μ-loop : tie.MeasureT-loop
 μ-loop line₀ memory₀ input₀ piece₀ run₀ turns₀ line memory input piece run turns = turns

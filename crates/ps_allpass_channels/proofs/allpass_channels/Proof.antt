@@ -31,13 +31,5 @@ done-here c =
 pub allpass-channels-spec : {M : Type 1} → statement M
 allpass-channels-spec =
     tie.close
-    (tie.spec
-    (λ c κs. search needs)
-    (λ c. search needs)
-    left-here
-    (λ c. search needs)
-    right-here
-    (λ c κs. search needs)
-    (λ c. search needs)
-    (λ c. search needs)
-    done-here)
+    (tie.spec (λ c κs. search needs) (λ c. search needs) left-here (λ c. search needs) right-here (λ c κs. search needs) (λ c. search needs)
+    (λ c. search needs) done-here)

@@ -11,7 +11,7 @@ use Rattle.layout.specs.declared.Layout.{Layout}
 use Rattle.standard.specs.declared.Matrix.{Matrix}
 use Rattle.ps_allpass_channels.specs.Sofar.{Turned}
 use Rattle.ps_allpass_channels.specs.Turns.{matrixBy}
-use Rattle.ps_allpass_channels.proofs.Numbers.{all-pass-small}
+use Rattle.layout.proofs.Bounds.{bounds}
 use Rattle.ps_allpass_channels.proofs.Sofar.{turned-none, turned-on}
 use Rattle.ps_allpass_channels.proofs.each.Statement.{statement}
 use Rattle.ps_allpass_channels.proofs.each.Tie as tie
@@ -57,7 +57,7 @@ add-k c =
     let counted = c .before .before .before .before .before .before .before .before .before .before .before .before .before .before .before .before in
     let test = counted .before in
     let start = test .before .before .before .before .before in
-    omega (arith, counted .least .ensures, test .loop-test .taken, start .pre .0 .1, all-pass-small (start .args .layout))
+    omega (arith, counted .least .ensures, test .loop-test .taken, start .pre .0 .1, bounds (start .args .layout) .all-pass)
 
 -- channels more leave fewer
 fewer : (k lanes n : ℕ) → lanes ≡ min 4 (n - k) → k < n → n - (k + lanes) < n - k
@@ -93,17 +93,5 @@ returns c =
 pub each-spec : {M : Type 1} → statement M
 each-spec =
     tie.close
-    (tie.spec
-    Inv-loop
-    μ-loop
-    loop-holds
-    (λ c. omega (arith, c .loop-test .taken))
-    (λ c κs. search needs)
-    turn-requires
-    add-k
-    loop-less
-    loop-again
-    (λ c. c .before .loop .inv .delays-long)
-    (λ c. c .before .loop .inv .left-long)
-    (λ c. c .before .loop .inv .right-long)
-    returns)
+    (tie.spec Inv-loop μ-loop loop-holds (λ c. omega (arith, c .loop-test .taken)) (λ c κs. search needs) turn-requires add-k loop-less loop-again
+    (λ c. c .before .loop .inv .delays-long) (λ c. c .before .loop .inv .left-long) (λ c. c .before .loop .inv .right-long) returns)

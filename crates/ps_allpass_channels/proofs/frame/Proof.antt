@@ -6,8 +6,9 @@ use native.Mathlib.Omega.{arith}
 use borrow.Author.Needs.{needs}
 use borrow.Kind.Array.{eInt, good-length}
 use mir.Syntax.{w8}
+use Rattle.limits.specs.Limits as limits
 use Rattle.ps_allpass_channels.proofs.Matrices.{regions-few, matrix-borders, sofar-same}
-use Rattle.ps_allpass_channels.proofs.Numbers.{split-passes}
+use Rattle.layout.proofs.Bounds.{bounds}
 use Rattle.ps_allpass_channels.proofs.Sofar.{sofar-none, turned-on}
 use Rattle.ps_allpass_channels.proofs.frame.Statement.{statement}
 use Rattle.ps_allpass_channels.proofs.frame.Tie as tie
@@ -20,7 +21,7 @@ each-requires c κs =
     let mapped = located .before .before in
     let start = mapped .before .before .before .before in
     let s = start .args in (
-      (omega arith, omega (arith, unsplit .unsplit-from .ensures, split-passes (s .layout))),
+      (omega arith, omega (arith, unsplit .unsplit-from .ensures, bounds (s .layout) .passed)),
       (
         record {
           bands = mapped .parameter-map .ensures;
@@ -42,7 +43,7 @@ rest-requires c κs =
     let mapped = located .before .before in
     let start = mapped .before .before .before .before in
     let s = start .args in (
-      (omega (arith, unsplit .unsplit-from .ensures, passed .all-pass .ensures, split-passes (s .layout)), omega (arith, passed .all-pass .ensures)),
+      (omega (arith, unsplit .unsplit-from .ensures, passed .all-pass .ensures, bounds (s .layout) .passed), omega (arith, passed .all-pass .ensures)),
       (
         record {
           bands = mapped .parameter-map .ensures;
@@ -68,11 +69,11 @@ returns c =
     let located = shared .before .before in
     let start = located .before .before .before .before .before .before in
     let s = start .args in
-    let four = good-length (eInt w8) 4 (s .borders) _ (start .good .1 .1 .0) in
+    let whole = good-length (eInt w8) limits.envelopes (s .borders) _ (start .good .1 .1 .0) in
     let few : s .slots ≤ 32 = start .pre .1 .0 in
     rw (passed .all-pass .ensures) at
     (sofar-same (s .layout) _ _ (s .samples .now) (s .gains .now) (s .slots)
-    (λ b n h. matrix-borders (s .borders) (s .count) _ _ (located .regions2 .ensures) (counted .least .ensures) _ _ (s .rows .now) (shared .fractions2 .ensures) four b n (omega arith))
+    (λ b n h. matrix-borders (s .borders) (s .count) _ _ (located .regions2 .ensures) (counted .least .ensures) _ _ (s .rows .now) (shared .fractions2 .ensures) whole b n (omega arith))
     (turned-on (s .layout) _ (s .samples .now) (s .gains .now) (s .slots) (came .each .ensures) (done .each2 .ensures)
     .next (s .delays .now) (s .left .now) (s .right .now) (start .pre .1 .1 .0) (start .pre .1 .1 .1)
     (sofar-none (s .layout) _ (s .samples .now) (s .gains .now) (s .slots) (s .delays .now) (s .left .now) (s .right .now))))
@@ -80,16 +81,5 @@ returns c =
 pub frame-spec : {M : Type 1} → statement M
 frame-spec =
     tie.close
-    (tie.spec
-    (λ c κs. search needs)
-    (λ c κs. search needs)
-    (λ c κs. search needs)
-    (λ c κs. search needs)
-    (λ c κs. search needs)
-    each-requires
-    (λ c κs. search needs)
-    rest-requires
-    (λ c. search needs)
-    (λ c. search needs)
-    (λ c. search needs)
-    returns)
+    (tie.spec (λ c κs. search needs) (λ c κs. search needs) (λ c κs. search needs) (λ c κs. search needs) (λ c κs. search needs) each-requires
+    (λ c κs. search needs) rest-requires (λ c. search needs) (λ c. search needs) (λ c. search needs) returns)

@@ -20,20 +20,6 @@ of-34 c κs =
 pub rotated-spec : {M : Type 1} → statement M
 rotated-spec =
     tie.close
-    (tie.spec
-    (λ c. search needs)
-    (λ c κs. search needs)
-    (λ c. search needs)
-    of-20
-    (λ c. search needs)
-    (λ c κs. search needs)
-    (λ c. search needs)
-    of-34
-    (λ c. search needs)
-    (λ c. search needs)
-    (λ c. search needs)
-    (λ c. search needs)
-    (λ c. search needs)
-    (λ c. search needs)
-    (λ c. search needs)
+    (tie.spec (λ c. search needs) (λ c κs. search needs) (λ c. search needs) of-20 (λ c. search needs) (λ c κs. search needs) (λ c. search needs)
+    of-34 (λ c. search needs) (λ c. search needs) (λ c. search needs) (λ c. search needs) (λ c. search needs) (λ c. search needs) (λ c. search needs)
     (λ c. search needs))

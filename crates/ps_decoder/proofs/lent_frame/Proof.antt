@@ -1,22 +1,22 @@
 -- `ps_decoder::lent_frame` meets its contract: each return is the case of the call that the line, quiet and the input pick. Assumes nothing.
 use borrow.Author.Needs.{needs}
-use mathlib.Core.Path.{_≡_, refl, sym, ap, _∙_}
-use lib.ListN.{length, length-map}
-use Rattle.answer.specs.declared.Answer.{Answer}
+use mathlib.Core.Path.{_≡_, sym, ap, _∙_}
+use lib.ListN.{length-map}
 use Rattle.answer.specs.declared.Answer.the-variants.{Done}
+use Rattle.answer.proofs.Refused.{not-done}
 use Rattle.calls.specs.Call.{Call, resolved}
+use Rattle.calls.proofs.Accepts.{taken-room}
 use Rattle.cue.specs.declared.Header.{Header}
-use Rattle.cue.specs.declared.Line.{Line}
-use Rattle.cue.specs.declared.Line.the-variants.{Read, Refused}
+use Rattle.cue.specs.declared.Line.the-variants.{Read}
 use Rattle.cue.specs.Line as line
 use Rattle.ps_data.specs.declared.Resolved.{Resolved}
-use Rattle.ps_data.specs.Indices.{resolveLine, readAnswer}
+use Rattle.ps_data.specs.Indices.{readAnswer}
 use Rattle.ps_state.specs.declared.PsDecoder.{PsDecoder}
 use Rattle.ps_state.specs.State.{decoderOf, playingOf}
 use Rattle.ps_state.specs.Shape.{Shaped}
 use Rattle.ps_decoder.specs.Frame.{callOf}
 use Rattle.ps_decoder.proofs.Outcomes.{accepted}
-use Rattle.ps_decoder.proofs.Refusals.{Left, not-done, line-refused, quiet, input-refused}
+use Rattle.ps_decoder.proofs.Refusals.{line-refused, quiet, input-refused}
 use Rattle.ps_decoder.proofs.lent_frame.Statement.{statement}
 use Rattle.ps_decoder.proofs.lent_frame.Tie as tie
 
@@ -38,7 +38,7 @@ module _ (c : tie.After-resolve) where
   shaped : Shaped state
   shaped =
       let lent = c .before .before .sized .ensures in
-      let stereo = start .good .0 .1 .1 .1 .1 .1 .1 .1 .0 in
+      let stereo = start .good .0 .1 .1 .1 .1 .1 .1 .0 in
       record {
         history = lent .history-long;
         delays = lent .delays-long;
@@ -67,10 +67,10 @@ module _ (c : tie.After-known-told) where
   resolving = c .before .before .before
 
   abbrev header : Header
-  header = c .before .said .given .0 .0
+  header = c .before .read .given .0 .0
 
   says : resolved (playingOf (state resolving)) (call resolving) .line ≡ Read header
-  says = ap (λ (x : Resolved). x .line) (sym (resolved-is resolving)) ∙ c .before .said .given .1
+  says = ap (λ (x : Resolved). x .line) (sym (resolved-is resolving)) ∙ c .before .read .given .1
 
 returns-2 : tie.Need-returns-2
 returns-2 c =
@@ -84,7 +84,7 @@ module _ (c : tie.After-enum-told2) where
   abbrev telling : tie.After-known-told
   telling = c .before .before .before
 
-  heard : readAnswer (header telling) (state (resolving telling) .configured) ≡ Done
+  heard : readAnswer (header telling) (state (resolving telling) .lines .configured) ≡ Done
   heard = sym (c .before .before .read-answer .ensures) ∙ c .enum-told2 .given .1
 
 returns-3 : tie.Need-returns-3
@@ -94,6 +94,12 @@ returns-3 c =
     let r = resolving told in
     input-refused (state r) (call r) (header told) (c .before .input-answer .result) (says told) (heard loud) (c .before .input-answer .ensures)
     (not-done (c .before .input-answer .result) (c .match3 .keys2))
+
+-- and whose input is taken
+room : tie.Need-play-requires
+room c κs =
+    let lent = c .before .before .before .before .before .before .before in
+    taken-room _ _ _ _ (sym (lent .before .before .input-answer .ensures) ∙ lent .enum-told3 .given .1)
 
 returns-4 : tie.Need-returns-4
 returns-4 c =
@@ -112,4 +118,4 @@ lent-frame-spec =
     tie.close
     (tie.spec
     (λ c κs. search needs) (λ c κs. search needs) (λ c. search needs) (λ c. search needs) (λ c κs. search needs) returns (λ c κs. search needs) (λ c. search needs) returns-2
-    (λ c κs. search needs) (λ c. search needs) returns-3 (λ c κs. search needs) (λ c. search needs) (λ c. search needs) returns-4)
+    (λ c κs. search needs) (λ c. search needs) returns-3 room (λ c. search needs) (λ c. search needs) returns-4)

@@ -5,7 +5,7 @@ use native.Mathlib.Omega.{arith}
 use lib.ListN.{length}
 use Rattle.standard.specs.Numbers.{zero}
 use Rattle.ps_decorr.proofs.Clearing.{Cleared, cleared-none, cleared-long, cleared-more, cleared-all}
-use Rattle.ps_decorr.proofs.Literals.{none}
+use Rattle.standard.proofs.Literals.{zero-is}
 use Rattle.ps_decorr.proofs.clear_from.Statement.{statement}
 use Rattle.ps_decorr.proofs.clear_from.Tie as tie
 
@@ -19,7 +19,7 @@ loop-less : tie.Need-loop-less Inv-loop μ-loop
 loop-less c = omega (arith, cleared-long (c .before .loop .inv))
 
 loop-again : tie.Need-loop-again Inv-loop μ-loop
-loop-again c = cleared-more (c .before .loop .inv) _ none (c .loop-test .taken)
+loop-again c = cleared-more (c .before .loop .inv) _ zero-is (c .loop-test .taken)
 
 returns : tie.Need-returns Inv-loop μ-loop
 returns c = cleared-all (c .before .loop .inv) (c .loop-test .left)

@@ -3,7 +3,7 @@ use mathlib.Core.Path.{ap}
 use lib.Ieee.{Float}
 use lib.ListN.{replicate}
 use Rattle.ps_decorr.specs.declared.PsDecorr.{PsDecorr}
-use Rattle.ps_decorr.proofs.Literals.{none}
+use Rattle.standard.proofs.Literals.{zero-is}
 use Rattle.ps_decorr.proofs.fresh.Statement.{statement}
 use Rattle.ps_decorr.proofs.fresh.Tie as tie
 
@@ -12,7 +12,7 @@ abbrev filled : Float → PsDecorr
 filled z = record { delays = replicate 1400 z; long = replicate 336 z; short = replicate 58 z; detectors = replicate 102 z }
 
 returns : tie.Need-returns
-returns c = ap filled none
+returns c = ap filled zero-is
 
 pub fresh-spec : {M : Type 1} → statement M
 fresh-spec = tie.close (tie.spec returns)

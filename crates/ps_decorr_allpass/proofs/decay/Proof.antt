@@ -3,13 +3,13 @@ use borrow.Author.Needs.{needs}
 use borrow.Author.Tests.{le-leb, lt-leb}
 use Rattle.standard.specs.Channel.{decay}
 use Rattle.standard.specs.Numbers.{_⊖_, _⊗_}
-use Rattle.ps_decorr_allpass.proofs.Literals.{single}
+use Rattle.standard.proofs.Literals.{one-is}
 use Rattle.ps_decorr_allpass.proofs.decay.Statement.{statement}
 use Rattle.ps_decorr_allpass.proofs.decay.Tie as tie
 
 whole : tie.Need-returns
 unfolding decay
-whole c = rw (← c .before .decay-cutoff .ensures, single, le-leb _ _ (c .if1 .taken))
+whole c = rw (← c .before .decay-cutoff .ensures, one-is, le-leb _ _ (c .if1 .taken))
 
 decayed : tie.Need-returns-2
 unfolding decay _⊖_ _⊗_
@@ -19,7 +19,7 @@ decayed c =
       c .at-least-zero .ensures,
       c .before .nearest-u64-to-f64 .ensures,
       c .before .before .decay-slope .ensures,
-      single,
+      one-is,
       ← cutoff,
       lt-leb _ _ (c .before .before .before .if1 .left),
     )

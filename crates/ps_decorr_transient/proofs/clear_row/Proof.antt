@@ -5,7 +5,7 @@ use borrow.Author.Needs.{needs}
 use native.Mathlib.Omega.{arith}
 use Rattle.standard.specs.Numbers as numbers
 use Rattle.ps_decorr_transient.specs.Rows.{Row}
-use Rattle.ps_decorr_transient.proofs.Literals.{zero-is}
+use Rattle.standard.proofs.Literals.{zero-is}
 use Rattle.ps_decorr_transient.proofs.Rows.{row-none, row-more}
 use Rattle.ps_decorr_transient.proofs.clear_row.Statement.{statement}
 use Rattle.ps_decorr_transient.proofs.clear_row.Tie as tie

@@ -6,14 +6,14 @@ use borrow.Author.Tests.{lt-leb, le-leb}
 use native.Mathlib.Omega.{arith}
 use lib.ListN.{length}
 use Rattle.ps_decorr_transient.proofs.Ducks.{same-detectors, same-gains, new-detectors, new-gains}
-use Rattle.ps_decorr_transient.proofs.Powers.{bands-fit}
+use Rattle.layout.proofs.Bounds.{bounds}
 use Rattle.ps_decorr_transient.proofs.duck.Statement.{statement}
 use Rattle.ps_decorr_transient.proofs.duck.Tie as tie
 
 clear-requires : tie.Need-clear-requires
 clear-requires c κs =
     let b = c .before .before .before in
-    (search needs, (omega (arith, b .bands .ensures, bands-fit (b .before .before .args .layout)), search needs))
+    (search needs, (omega (arith, b .bands .ensures, bounds (b .before .before .args .layout) .bands), search needs))
 
 add-powers-requires : tie.Need-add-powers-requires
 add-powers-requires c κs =
@@ -24,7 +24,7 @@ add-powers-requires c κs =
 duck-rows-requires : tie.Need-duck-rows-requires
 duck-rows-requires c κs =
     let b = c .before .before .before .before .before .before .before .before .before in
-    (search needs, (search needs, (omega (arith, b .bands .ensures, bands-fit (b .before .before .args .layout)), search needs)))
+    (search needs, (search needs, (omega (arith, b .bands .ensures, bounds (b .before .before .args .layout) .bands), search needs)))
 
 -- the arrays' lengths, which are known where they are lent
 detectors-long : (c : tie.After-duck-rows-arg) → length (c .before .before .before .before .before .before .before .before .before .before .args .detectors .now) ≡ 102

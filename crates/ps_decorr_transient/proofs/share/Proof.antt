@@ -1,7 +1,6 @@
 -- `ps_decorr_transient::share` meets its contract: each return is the case that the test picks. Assumes nothing.
-use mathlib.Core.Path.{refl}
 use Rattle.standard.specs.Numbers.{_⊘_}
-use Rattle.ps_decorr_transient.proofs.Literals.{one-is}
+use Rattle.standard.proofs.Literals.{one-is}
 use Rattle.ps_decorr_transient.proofs.share.Statement.{statement}
 use Rattle.ps_decorr_transient.proofs.share.Tie as tie
 

@@ -50,13 +50,5 @@ done-here c =
 pub delay-channels-spec : {M : Type 1} → statement M
 delay-channels-spec =
     tie.close
-    (tie.spec
-    (λ c κs. search needs)
-    (λ c. search needs)
-    left-here
-    right-here
-    input-here
-    frame-requires
-    (λ c. search needs)
-    (λ c. search needs)
+    (tie.spec (λ c κs. search needs) (λ c. search needs) left-here right-here input-here frame-requires (λ c. search needs) (λ c. search needs)
     done-here)

@@ -6,7 +6,7 @@ use native.Mathlib.Omega.{arith}
 use borrow.Author.Needs.{needs}
 use Rattle.layout.specs.Numbers.{allPassOf, channelsOf}
 use Rattle.ps_delay_channels.specs.Spans.{Spanned}
-use Rattle.ps_delay_channels.proofs.Numbers.{placed}
+use Rattle.layout.proofs.Bounds.{bounds}
 use Rattle.ps_delay_channels.proofs.Spans.{spanned-none, spanned-more}
 use Rattle.ps_delay_channels.proofs.each.Statement.{statement}
 use Rattle.ps_delay_channels.proofs.each.Tie as tie
@@ -23,7 +23,7 @@ loop-holds : tie.Need-loop-holds Inv-loop μ-loop
 loop-holds c =
     let start = c .before .before .before .before .before in
     let s = start .args in
-    let m = placed (s .layout) in
+    let m = bounds (s .layout) in
     rw (c .all-pass .ensures) (
       (omega arith, omega arith),
       spanned-none (s .borders) (s .count) (s .input .now) (s .gains .now) (s .rows .now) (s .layout) (s .before .now) (s .short .now) (s .slots) (allPassOf (s .layout)) (s .left .now)
@@ -90,15 +90,5 @@ returns c =
 pub each-spec : {M : Type 1} → statement M
 each-spec =
     tie.close
-    (tie.spec
-    Inv-loop
-    μ-loop
-    (λ c κs. search needs)
-    (λ c κs. search needs)
-    loop-holds
-    span-requires
-    loop-less
-    loop-again
-    same-length
-    same-length-2
+    (tie.spec Inv-loop μ-loop (λ c κs. search needs) (λ c κs. search needs) loop-holds span-requires loop-less loop-again same-length same-length-2
     returns)

@@ -5,21 +5,22 @@ use native.Mathlib.Omega.{arith}
 use borrow.Author.Needs.{needs}
 use Rattle.layout.specs.Numbers.{allPassOf, shortDelayOf}
 use Rattle.ps_delay_channels.specs.Rows.{runsOf}
-use Rattle.ps_delay_channels.proofs.Numbers.{placed, band-at}
+use Rattle.layout.proofs.Bounds.{bounds}
+use Rattle.ps_delay_channels.proofs.Numbers.{band-at}
 use Rattle.ps_delay_channels.proofs.keep.Statement.{statement}
 use Rattle.ps_delay_channels.proofs.keep.Tie as tie
 
 add-first : tie.Need-add-first
-add-first c = let m = placed (c .before .before .before .before .args .layout) in omega (arith, c .all-pass .ensures, c .before .before .split .ensures)
+add-first c = let m = bounds (c .before .before .before .before .args .layout) in omega (arith, c .all-pass .ensures, c .before .before .split .ensures)
 
 sub-first : tie.Need-sub-first
-sub-first c = let m = placed (c .before .before .before .before .args .layout) in omega (arith, c .all-pass .ensures, c .before .unsplit-from .ensures, c .before .before .split .ensures)
+sub-first c = let m = bounds (c .before .before .before .before .args .layout) in omega (arith, c .all-pass .ensures, c .before .unsplit-from .ensures, c .before .before .split .ensures)
 
 keep-long-requires : tie.Need-keep-long-requires
 keep-long-requires c κs =
     let passed = c .before .before in
     let start = passed .before .before .before .before in
-    let m = placed (start .args .layout) in (
+    let m = bounds (start .args .layout) in (
       (search needs, (omega (arith, passed .all-pass .ensures, passed .before .unsplit-from .ensures, passed .before .before .split .ensures), start .pre .0)),
       (search needs, start .pre .1),
     )
@@ -27,13 +28,13 @@ keep-long-requires c κs =
 add-behind : tie.Need-add-behind
 add-behind c =
     let passed = c .before .before .before .before in
-    let m = placed (passed .before .before .before .before .args .layout) in
+    let m = bounds (passed .before .before .before .before .args .layout) in
     omega (arith, c .short-delay .ensures, passed .before .before .split .ensures)
 
 sub-behind : tie.Need-sub-behind
 sub-behind c =
     let passed = c .before .before .before .before in
-    let m = placed (passed .before .before .before .before .args .layout) in
+    let m = bounds (passed .before .before .before .before .args .layout) in
     omega (arith, c .short-delay .ensures, passed .before .unsplit-from .ensures, passed .before .before .split .ensures)
 
 keep-short-requires : tie.Need-keep-short-requires
@@ -41,7 +42,7 @@ keep-short-requires c κs =
     let shorts = c .before in
     let passed = shorts .before .before .before .before in
     let start = passed .before .before .before .before in
-    let m = placed (start .args .layout) in (
+    let m = bounds (start .args .layout) in (
       (search needs, (omega (arith, shorts .short-delay .ensures, passed .before .unsplit-from .ensures, passed .before .before .split .ensures), start .pre .0)),
       start .pre .1,
     )
@@ -66,15 +67,5 @@ returns c =
 pub keep-spec : {M : Type 1} → statement M
 keep-spec =
     tie.close
-    (tie.spec
-    (λ c κs. search needs)
-    (λ c κs. search needs)
-    (λ c κs. search needs)
-    add-first
-    sub-first
-    keep-long-requires
-    (λ c κs. search needs)
-    add-behind
-    sub-behind
-    keep-short-requires
-    returns)
+    (tie.spec (λ c κs. search needs) (λ c κs. search needs) (λ c κs. search needs) add-first sub-first keep-long-requires (λ c κs. search needs)
+    add-behind sub-behind keep-short-requires returns)

@@ -7,16 +7,17 @@ use borrow.Author.Needs.{needs}
 use lib.Ieee.{Float}
 use Rattle.layout.specs.declared.Layout.{Layout}
 use Rattle.planar.specs.Cells.{cell}
-use Rattle.standard.specs.Hybrid.{filtersOf, joinedTo, spanOf}
+use Rattle.standard.specs.Hybrid.{filtersOf, joinedTo, firstChannelOf}
 use Rattle.ps_hybrid_analysis.specs.Stages.{Written}
-use Rattle.ps_hybrid_analysis.proofs.Spans.{span-most, channel-inside}
+use Rattle.standard.proofs.Spans.{spans}
+use Rattle.ps_hybrid_analysis.proofs.Spans.{channel-inside}
 use Rattle.ps_hybrid_analysis.proofs.Split.{joined-none, joined-more}
 use Rattle.ps_hybrid_analysis.proofs.apply_all.Statement.{statement}
 use Rattle.ps_hybrid_analysis.proofs.apply_all.Tie as tie
 
 record Inv (l : Layout) (p : ℕ) (band : List Float) (slots count : ℕ) (old new : List Float) (q : ℕ) : Type 0 where
   pub within : q ≤ count
-  pub written : Written slots (spanOf l p) (spanOf l (suc p)) (λ k n. joinedTo l p (cell 44 band) n k q) old new
+  pub written : Written slots (firstChannelOf l p) (firstChannelOf l (suc p)) (λ k n. joinedTo l p (cell 44 band) n k q) old new
 
 abbrev Inv-loop : tie.InvT-loop
 Inv-loop layout p prototype waves g band slots samples₀ count q₀ samples q = Inv layout p band slots count samples₀ samples q
@@ -52,7 +53,7 @@ loop-again c =
       within = omega arith;
       written =
           joined-more (a .layout) (a .p) (cell 44 (a .band .now)) q (a .prototype) (s .pre .0 .0) (l .loop .inv .written) (r .apply .ensures)
-          (s .pre .1 .1 .0 .1 .1) (omega (arith, span-most (a .layout) (suc (a .p)))) (inside .from) (inside .to);
+          (s .pre .1 .1 .0 .1 .1) (omega (arith, spans (a .layout) (suc (a .p)) .few)) (inside .from) (inside .to);
     }
 
 returns : tie.Need-returns Inv-loop μ-loop

@@ -5,14 +5,15 @@ use native.Mathlib.Numerals.{add-one}
 use native.Mathlib.Omega.{arith}
 use borrow.Author.Needs.{needs}
 use Rattle.planar.specs.Cells.{cell}
-use Rattle.standard.specs.Hybrid.{spanOf}
-use Rattle.ps_hybrid_analysis.proofs.Spans.{split-most, span-rises, span-most}
+use Rattle.standard.specs.Hybrid.{firstChannelOf}
+use Rattle.layout.proofs.Bounds.{bounds}
+use Rattle.standard.proofs.Spans.{spans}
 use Rattle.ps_hybrid_analysis.proofs.Split.{silenced, banded}
 use Rattle.ps_hybrid_analysis.proofs.filter_band.Statement.{statement}
 use Rattle.ps_hybrid_analysis.proofs.filter_band.Tie as tie
 
 add-span : tie.Need-add-span
-add-span c = let s = c .before .before .before in omega (arith, split-most (s .args .layout), s .pre .0)
+add-span c = let s = c .before .before .before in omega (arith, bounds (s .args .layout) .split, s .pre .0)
 
 silence-requires : tie.Need-silence-requires
 silence-requires c κs =
@@ -20,8 +21,8 @@ silence-requires c κs =
     let s = two .before .before .before .before in
     let l = s .args .layout in
     let p = s .args .p in
-    let to : two .span2 .result ≡ spanOf l (suc p) = rw (add-one p) at (two .span2 .ensures) in (
-      (omega (arith, two .before .span .ensures, to, span-rises l p (s .pre .0)), omega (arith, to, span-most l (suc p))),
+    let to : two .span2 .result ≡ firstChannelOf l (suc p) = rw (add-one p) at (two .span2 .ensures) in (
+      (omega (arith, two .before .span .ensures, to, spans l p .rises), omega (arith, to, spans l (suc p) .few)),
       s .pre .1 .1,
     )
 

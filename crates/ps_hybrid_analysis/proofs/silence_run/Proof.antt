@@ -6,7 +6,7 @@ use borrow.Author.Needs.{needs}
 use lib.ListN.{length-set}
 use Rattle.planar.proofs.Cells.{by-parts}
 use Rattle.standard.specs.Numbers.{nought}
-use Rattle.ps_hybrid_analysis.proofs.Taps.{none}
+use Rattle.standard.proofs.Literals.{zero-is}
 use Rattle.ps_hybrid_analysis.proofs.Runs.{Filling, filled-none, filled-more, filled-planar}
 use Rattle.ps_hybrid_analysis.proofs.silence_run.Statement.{statement}
 use Rattle.ps_hybrid_analysis.proofs.silence_run.Tie as tie
@@ -26,7 +26,7 @@ slice-write-run-2 c = simp length-set (omega (arith, c .before .loop .inv .fille
 loop-again : tie.Need-loop-again Inv-loop μ-loop
 loop-again c =
     let l = c .before in
-    record { within = omega arith; filled = filled-more (l .loop .inv .filled) _ (by-parts none none) (omega arith) (omega arith) }
+    record { within = omega arith; filled = filled-more (l .loop .inv .filled) _ (by-parts zero-is zero-is) (omega arith) (omega arith) }
 
 returns : tie.Need-returns Inv-loop μ-loop
 returns c =

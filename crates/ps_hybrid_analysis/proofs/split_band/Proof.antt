@@ -7,8 +7,8 @@ use Rattle.planar.specs.Cells.{cell}
 use Rattle.standard.specs.Hybrid.{prototypeFor, filtersOf, joinedTo}
 use Rattle.ps_hybrid_analysis.specs.Stages.{bandAt}
 use Rattle.ps_hybrid_analysis.proofs.Channels.{written-same}
-use Rattle.ps_hybrid_analysis.proofs.Runs.{planar-same}
-use Rattle.ps_hybrid_analysis.proofs.Spans.{split-most}
+use Rattle.planar.proofs.Cells.{planar-same}
+use Rattle.layout.proofs.Bounds.{bounds}
 use Rattle.ps_hybrid_analysis.proofs.Split.{joined-same}
 use Rattle.ps_hybrid_analysis.proofs.split_band.Statement.{statement}
 use Rattle.ps_hybrid_analysis.proofs.split_band.Tie as tie
@@ -16,7 +16,7 @@ use Rattle.ps_hybrid_analysis.proofs.split_band.Tie as tie
 gather-requires : tie.Need-gather-requires
 gather-requires c κs =
     let s = c .before .before .before .before .before in
-    ((omega (arith, split-most (s .args .layout), s .pre .0 .0), s .pre .0 .1 .0), (s .pre .0 .1 .1, (s .pre .1 .0, refl)))
+    ((omega (arith, bounds (s .args .layout) .split, s .pre .0 .0), s .pre .0 .1 .0), (s .pre .0 .1 .1, (s .pre .1 .0, refl)))
 
 returns : tie.Need-returns
 returns c =

@@ -11,12 +11,13 @@ use Rattle.layout.specs.Numbers.{splitOf}
 use Rattle.lists.specs.Part.{part}
 use Rattle.planar.specs.Cells.{planar}
 use Rattle.planar.proofs.Cells.{planar-length}
-use Rattle.standard.specs.Hybrid.{spanOf, hybrid}
+use Rattle.standard.specs.Hybrid.{firstChannelOf, hybrid}
 use Rattle.ps_hybrid_analysis.specs.Analysis.{slotAt}
 use Rattle.ps_hybrid_analysis.specs.Stages.{Written, Kept, bandAt}
 use Rattle.ps_hybrid_analysis.proofs.Channels.{width, written-none}
 use Rattle.ps_hybrid_analysis.proofs.History.{kept-none, kept-lent, history-long, history-lent}
-use Rattle.ps_hybrid_analysis.proofs.Spans.{split-most, span-first, span-last}
+use Rattle.layout.proofs.Bounds.{bounds}
+use Rattle.standard.proofs.Spans.{span-first, spans}
 use Rattle.ps_hybrid_analysis.proofs.Split.{split-on}
 use Rattle.ps_hybrid_analysis.proofs.split_bands.Statement.{statement}
 use Rattle.ps_hybrid_analysis.proofs.split_bands.Tie as tie
@@ -25,7 +26,7 @@ record Inv (l : Layout) (input : List Float) (slots split : ℕ) (history₀ his
   pub few : split ≤ 5
   pub within : p ≤ split
   pub kept : Kept p (λ b. planar 6 (λ j. bandAt (part (12 * b) 12 history₀) input b (slots + j))) history₀ history
-  pub written : Written slots 0 (spanOf l p) (λ k n. hybrid l (slotAt l history₀ input) n k) samples₀ samples
+  pub written : Written slots 0 (firstChannelOf l p) (λ k n. hybrid l (slotAt l history₀ input) n k) samples₀ samples
 
 abbrev Inv-loop : tie.InvT-loop
 Inv-loop layout history₀ input slots samples₀ split p₀ history samples p = Inv layout input slots split history₀ history samples₀ samples p
@@ -37,7 +38,7 @@ loop-holds : tie.Need-loop-holds Inv-loop μ-loop
 loop-holds c =
     let s = c .before .before .before .before in
     record {
-      few = omega (arith, c .split .ensures, split-most (s .args .layout));
+      few = omega (arith, c .split .ensures, bounds (s .args .layout) .split);
       within = omega arith;
       kept = kept-none _ _;
       written = rw (span-first (s .args .layout)) (written-none _ _ _ _);
@@ -85,7 +86,7 @@ returns c =
     let l = c .before in
     let layout = l .before .before .before .before .before .args .layout in
     let all : l .loop .p ≡ splitOf layout = omega (arith, l .before .split .ensures) in
-    (rw all at (l .loop .inv .kept), rw (all, span-last layout) at (l .loop .inv .written))
+    (rw all at (l .loop .inv .kept), rw (all, spans layout (splitOf layout) .last (omega arith)) at (l .loop .inv .written))
 
 pub split-bands-spec : {M : Type 1} → statement M
 split-bands-spec =

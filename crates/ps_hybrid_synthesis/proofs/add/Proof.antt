@@ -7,7 +7,7 @@ use lib.ListN.{length-set}
 use Rattle.complex.specs.declared.Complex.{Complex}
 use Rattle.complex.specs.Operations.{sum}
 use Rattle.ps_hybrid_synthesis.specs.Column.{added}
-use Rattle.ps_hybrid_synthesis.specs.Lanes.{on}
+use Rattle.planar.specs.Lanes.{on}
 use Rattle.ps_hybrid_synthesis.proofs.Columns.{Column, column-none, column-ahead, column-more, column-all}
 use Rattle.ps_hybrid_synthesis.proofs.add.Statement.{statement}
 use Rattle.ps_hybrid_synthesis.proofs.add.Tie as tie

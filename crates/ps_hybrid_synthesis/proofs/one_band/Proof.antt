@@ -2,12 +2,12 @@
 use native.Mathlib.Omega.{arith}
 use borrow.Author.Needs.{needs}
 use borrow.Author.Tests.{lt-ltb, le-ltb}
-use Rattle.ps_hybrid_synthesis.proofs.Spans.{channels-few}
+use Rattle.layout.proofs.Bounds.{bounds}
 use Rattle.ps_hybrid_synthesis.proofs.one_band.Statement.{statement}
 use Rattle.ps_hybrid_synthesis.proofs.one_band.Tie as tie
 
 fits : tie.Need-add-if1
-fits c = omega (arith, c .before .pre, channels-few (c .before .args .layout))
+fits c = omega (arith, c .before .pre, bounds (c .before .args .layout) .channels)
 
 above : tie.Need-returns
 above c = rw (le-ltb _ _ (rw (c .before .unsplit-from .ensures) at (c .if1 .taken)))

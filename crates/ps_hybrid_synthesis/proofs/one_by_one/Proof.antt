@@ -5,7 +5,7 @@ use Prim.Native.Nat.{_-_, _≤_}
 use native.Mathlib.Omega.{arith}
 use borrow.Author.Needs.{needs}
 use Rattle.ps_hybrid_synthesis.specs.Column.{lanesAfter}
-use Rattle.ps_hybrid_synthesis.proofs.Spans.{channels-few}
+use Rattle.layout.proofs.Bounds.{bounds}
 use Rattle.ps_hybrid_synthesis.proofs.WaysOfFour.{Placed, placed-none, placed-more, placed-past}
 use Rattle.ps_hybrid_synthesis.proofs.one_by_one.Statement.{statement}
 use Rattle.ps_hybrid_synthesis.proofs.one_by_one.Tie as tie
@@ -22,12 +22,12 @@ loop-holds c = (omega arith, placed-none _ _ _ _ _)
 sum-fits : tie.Need-add-if1 Inv-loop μ-loop
 sum-fits c =
     let s = c .before .before .before .before in
-    omega (arith, s .pre .0 .0, s .pre .1, channels-few (s .args .layout))
+    omega (arith, s .pre .0 .0, s .pre .1, bounds (s .args .layout) .channels)
 
 again-fits : tie.Need-add-place Inv-loop μ-loop
 again-fits c =
     let s = c .before .before .before .before .before in
-    omega (arith, s .pre .0 .0, s .pre .1, channels-few (s .args .layout))
+    omega (arith, s .pre .0 .0, s .pre .1, bounds (s .args .layout) .channels)
 
 place-requires : tie.Need-place-requires Inv-loop μ-loop
 place-requires c κs =

@@ -4,7 +4,7 @@ use Prim.Native.Nat.{_≤_, _-_}
 use native.Mathlib.Omega.{arith}
 use borrow.Author.Needs.{needs}
 use lib.ListN.{length-set}
-use Rattle.ps_hybrid_synthesis.specs.Lanes.{on}
+use Rattle.planar.specs.Lanes.{on}
 use Rattle.ps_hybrid_synthesis.proofs.Columns.{Column, column-none, column-more, column-all}
 use Rattle.ps_hybrid_synthesis.proofs.pass.Statement.{statement}
 use Rattle.ps_hybrid_synthesis.proofs.pass.Tie as tie

@@ -4,7 +4,7 @@ use Prim.Native.Nat.{_<_, _≤_}
 use native.Mathlib.Omega.{arith}
 use borrow.Author.Needs.{needs}
 use Rattle.layout.specs.Numbers.{unsplitFromOf}
-use Rattle.ps_hybrid_synthesis.specs.Lanes.{on}
+use Rattle.planar.specs.Lanes.{on}
 use Rattle.ps_hybrid_synthesis.proofs.Ways.{as-passed, as-started, as-added, with-both}
 use Rattle.ps_hybrid_synthesis.proofs.place.Statement.{statement}
 use Rattle.ps_hybrid_synthesis.proofs.place.Tie as tie

@@ -4,7 +4,7 @@ use Prim.Native.Nat.{_+_, _≤_}
 use native.Mathlib.Omega.{arith}
 use borrow.Author.Needs.{needs}
 use Rattle.layout.specs.Numbers.{unsplitFromOf, channelsOf}
-use Rattle.ps_hybrid_synthesis.proofs.Spans.{last-channel}
+use Rattle.layout.proofs.Bounds.{bounds}
 use Rattle.ps_hybrid_synthesis.proofs.WaysOfFour.{both-unsplit, four-unsplit}
 use Rattle.ps_hybrid_synthesis.proofs.place_four.Statement.{statement}
 use Rattle.ps_hybrid_synthesis.proofs.place_four.Tie as tie
@@ -23,7 +23,7 @@ pass-requires c κs =
     let u = c .before in
     let s = u .before .before .before .before in
     record {
-      inside = omega (arith, u .unsplit-column .ensures .0, unsplit (u .before), last-channel (s .args .layout));
+      inside = let b = bounds (s .args .layout) in omega (arith, u .unsplit-column .ensures .0, unsplit (u .before));
       few = s .pre .1 .0;
       long = search needs;
     }

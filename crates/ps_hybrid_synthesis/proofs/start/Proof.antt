@@ -5,9 +5,9 @@ use native.Mathlib.Omega.{arith}
 use borrow.Author.Needs.{needs}
 use lib.ListN.{length-set}
 use Rattle.ps_hybrid_synthesis.specs.Column.{started}
-use Rattle.ps_hybrid_synthesis.specs.Lanes.{on}
+use Rattle.planar.specs.Lanes.{on}
 use Rattle.ps_hybrid_synthesis.proofs.Columns.{Column, column-none, column-more, column-all}
-use Rattle.ps_hybrid_synthesis.proofs.Literals.{none}
+use Rattle.standard.proofs.Literals.{zero-is}
 use Rattle.ps_hybrid_synthesis.proofs.start.Statement.{statement}
 use Rattle.ps_hybrid_synthesis.proofs.start.Tie as tie
 
@@ -30,7 +30,7 @@ loop-again c =
     let s = l .before in
     let a = s .args in (
       omega arith,
-      rw none
+      rw zero-is
           (column-more (l .loop .inv .1) (s .pre .0 .inside) (started (on (a .lane) (a .runs .now)) (l .loop .n)) refl (omega (arith, s .pre .0 .long))),
     )
 

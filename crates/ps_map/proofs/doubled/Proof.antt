@@ -9,7 +9,7 @@ use lib.ListN.{length, drop, getD, replicate, drop-of-length-le}
 use mir.Syntax.{w8}
 use Rattle.integers.proofs.Bits.{back}
 use Rattle.lists.proofs.Fills.{Filled, filled-none, filled-more, filled-all}
-use Rattle.lists.proofs.Held.{held-front}
+use Rattle.lists.proofs.Padded.{padded-front}
 use Rattle.ps_map.specs.Maps.{duplicated}
 use Rattle.ps_map.proofs.Averages.{in8}
 use Rattle.ps_map.proofs.Duplicates.{duplicated-length, duplicated-next}
@@ -41,7 +41,7 @@ returns : tie.Need-returns Inv-loop μ-loop
 returns c =
     let v = c .before .before .args .v .now in
     let none : drop (c .before .loop .i) v ≡ [] = drop-of-length-le v (c .loop-test .left) in
-    filled-all (rw none at (c .before .loop .inv .1)) ∙ sym (held-front (pos 0) 34 (duplicated v) (rw duplicated-length (omega (arith, c .before .before .pre))))
+    filled-all (rw none at (c .before .loop .inv .1)) ∙ sym (padded-front (pos 0) 34 (duplicated v) (rw duplicated-length (omega (arith, c .before .before .pre))))
 
 pub doubled-spec : {M : Type 1} → statement M
 doubled-spec =

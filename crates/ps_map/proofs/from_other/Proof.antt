@@ -24,7 +24,7 @@ loop-holds c =
 
 loop-again : tie.Need-loop-again Inv-loop μ-loop
 loop-again c =
-    brought-more (c .before .before .before .loop .inv) _ (Single 0) (via w8 (c .index .result) _ (c .index .ok) (c .index .ensures)) (c .before .before .loop-test .taken)
+    brought-more (c .before .before .before .loop .inv) _ (Single 0) (via w8 (c .index-of .result) _ (c .index-of .ok) (c .index-of .ensures)) (c .before .before .loop-test .taken)
 
 returns : tie.Need-returns Inv-loop μ-loop
 returns c =

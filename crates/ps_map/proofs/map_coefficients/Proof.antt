@@ -4,7 +4,7 @@ use mathlib.Core.List.{map}
 use Prim.Native.Nat.{_-_}
 use borrow.Author.Needs.{needs}
 use lib.Ieee.{Float, binary64, ofBits}
-use Rattle.lists.specs.Held.{held}
+use Rattle.lists.specs.Padded.{padded}
 use Rattle.ps_map.specs.Maps.{coefficientFrom, mapCoefficients}
 use Rattle.ps_map.specs.Tables.{sourcesOf}
 use Rattle.ps_map.specs.declared.MapSrc.the-variants.{Single}
@@ -28,7 +28,7 @@ loop-holds c =
 
 loop-again : tie.Need-loop-again Inv-loop μ-loop
 loop-again c =
-    brought-more (c .before .before .before .before .loop .inv) (c .coefficient .result) (Single 0) (c .coefficient .ensures) (c .before .before .before .loop-test .taken)
+    brought-more (c .before .before .before .before .loop .inv) (c .coefficient-of .result) (Single 0) (c .coefficient-of .ensures) (c .before .before .before .loop-test .taken)
 
 returns : tie.Need-returns Inv-loop μ-loop
 unfolding mapCoefficients
@@ -37,7 +37,7 @@ returns c =
     let s = b .before .before .args in
     bands-all (coefficientFrom (s .t1)) (ofBits binary64 0) (s .layout) (b .before .sources .result) (b .bands .result) (b .before .sources .ensures) (b .bands .ensures)
     (c .before .loop .out) (c .before .loop .i) (c .before .loop .inv) (c .loop-test .left)
-    ∙ ap (λ (z : Float). held 34 z (map (coefficientFrom (s .t1)) (sourcesOf (s .layout)))) none
+    ∙ ap (λ (z : Float). padded 34 z (map (coefficientFrom (s .t1)) (sourcesOf (s .layout)))) none
 
 pub map-coefficients-spec : {M : Type 1} → statement M
 map-coefficients-spec =

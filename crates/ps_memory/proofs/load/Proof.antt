@@ -2,7 +2,7 @@
 use borrow.Author.Tests.{eq-eqb, ne-eqb}
 use borrow.Author.Needs.{needs}
 use lib.ListN.{length}
-use Rattle.ps_memory.specs.Place.{loadOver}
+use Rattle.ps_memory.specs.Place.{numbers, loadOver}
 use Rattle.ps_memory.proofs.Read.{whole-read}
 use Rattle.ps_memory.proofs.load.Statement.{statement}
 use Rattle.ps_memory.proofs.load.Tie as tie
@@ -18,7 +18,7 @@ right c =
     let history = decorr .before .before .before .before .before .before in
     let tested = history .before .before .before in
     let start = tested .before .before in
-    rw (eq-eqb (length (start .args .memory .now)) 2372 (tested .if1 .left))
+    rw (eq-eqb (length (start .args .memory .now)) numbers (tested .if1 .left))
     (whole-read (start .args .memory .now) _ _ _ _ _ _ (c .load-carried .ensures) (history .copy .ensures) (decorr .load-decorr .ensures))
 
 pub load-spec : {M : Type 1} → statement M

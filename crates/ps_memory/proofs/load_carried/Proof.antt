@@ -6,15 +6,16 @@ use Rattle.ps_memory.proofs.load_carried.Tie as tie
 
 returns : tie.Need-returns
 returns c =
-    let indices = c .before .before in
-    let cued = indices .before .before in
-    let configured = cued .before .before in
-    let layout = configured .before .before in
+    let lines = c .before .before in
+    let cued = lines .before .before in
+    let layout = cued .before .before in
     let slots = layout .before .before in
-    carried-read (slots .before .before .before .args .memory .now) _ _ _ _ _ _ (slots .slots-in .ensures) (layout .layout-in .ensures) (configured .flag .ensures)
-    (cued .flag2 .ensures) (indices .load-indices .ensures) (c .load-stereo .ensures)
+    carried-read (slots .before .before .before .args .memory .now) _ _ _ _ _ (slots .slots-in .ensures) (layout .layout-in .ensures)
+    (cued .flag .ensures) (lines .load .ensures) (c .load-stereo .ensures)
 
 pub load-carried-spec : {M : Type 1} → statement M
 load-carried-spec =
     tie.close
-    (tie.spec (λ c. search needs) (λ c κs. search needs) (λ c. search needs) (λ c κs. search needs) (λ c. search needs) (λ c κs. search needs) (λ c. search needs) (λ c κs. search needs) (λ c. search needs) (λ c. search needs) (λ c. search needs) (λ c κs. search needs) (λ c. search needs) (λ c. search needs) (λ c. search needs) (λ c κs. search needs) returns)
+    (tie.spec (λ c. search needs) (λ c κs. search needs) (λ c. search needs) (λ c κs. search needs) (λ c. search needs) (λ c κs. search needs)
+    (λ c. search needs) (λ c. search needs) (λ c. search needs) (λ c κs. search needs) (λ c. search needs) (λ c. search needs) (λ c. search needs)
+    (λ c κs. search needs) returns)

@@ -8,12 +8,12 @@ use Rattle.ps_memory.proofs.store_whole.Tie as tie
 returns : tie.Need-returns
 returns c =
     let head = c .before .before in
-    let indices = head .before .before .before .before in
-    let sound = indices .before .before .before .before .before in
+    let lines = head .before .before .before .before in
+    let sound = lines .before .before .before .before .before in
     let start = sound .before .before .before .before in
     let a = start .args in
     whole-laid (decoderOf (a .carried) (a .history .now) (a .delays .now) (a .long .now) (a .short .now) (a .detectors .now)) (a .memory .now) _ _ _ (start .pre)
-    (head .store-head .ensures) (indices .store-indices .ensures) (sound .store-sound .ensures)
+    (head .store-head .ensures) (lines .store .ensures) (sound .store-sound .ensures)
 
 pub store-whole-spec : {M : Type 1} → statement M
 store-whole-spec =

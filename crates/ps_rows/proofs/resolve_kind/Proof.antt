@@ -7,12 +7,13 @@ use mathlib.Core.List.{List, [], map}
 use Prim.Native.Nat.{ℕ, _≤_, _-_, _*_, min}
 use lib.IntN.{ℤ}
 use lib.ListN.{take, drop, replicate}
+use Rattle.limits.specs.Limits as limits
 use Rattle.lists.proofs.Fills.{Filled, filled-none, filled-more}
 use Rattle.ps_rows.specs.declared.Kind.{Kind}
 use Rattle.ps_rows.specs.declared.Row.{Row}
 use Rattle.ps_rows.specs.declared.Rows.{Rows}
 use Rattle.ps_rows.specs.declared.ResolvedKind.{ResolvedKind}
-use Rattle.ps_rows.specs.Rows.{rowsOf, heldRow, heldRows, startOf, lastOf, resolvedFrom, resolveKind}
+use Rattle.ps_rows.specs.Rows.{rowsOf, paddedRow, paddedRows, startOf, lastOf, resolvedFrom, resolveKind}
 use Rattle.ps_rows.proofs.Places.{held-rows}
 use Rattle.ps_rows.proofs.Ranges.{rows-length}
 use Rattle.ps_rows.proofs.Turns.{rows-turn}
@@ -23,7 +24,7 @@ use Rattle.ps_rows.proofs.resolve_kind.Tie as tie
 record Inv (kind : Kind) (count limit : ℕ) (bytes : List ℕ) (start : List ℤ) (kept : Row) (row : List Row) (old : List ℤ) (last : Row) (place e : ℕ) : Type 0 where
   pub low : e ≤ limit
   pub near : place ≤ e * 35
-  pub filled : Filled (map heldRow (rowsOf kind count (take count old) (drop place bytes) (limit - e))) (map heldRow (rowsOf kind count (take count start) bytes limit)) (replicate 4 (heldRow [])) row e
+  pub filled : Filled (map paddedRow (rowsOf kind count (take count old) (drop place bytes) (limit - e))) (map paddedRow (rowsOf kind count (take count start) bytes limit)) (replicate limits.envelopes (paddedRow [])) row e
   pub lasts : lastOf last (rowsOf kind count (take count old) (drop place bytes) (limit - e)) ≡ lastOf kept (rowsOf kind count (take count start) bytes limit)
 
 abbrev Inv-loop : tie.InvT-loop
@@ -38,7 +39,7 @@ loop-holds c =
     record {
       low = omega arith;
       near = omega arith;
-      filled = rw (sub-zero, c .before .no-row .ensures) (filled-none _ (replicate 4 (heldRow [])));
+      filled = rw (sub-zero, c .before .no-row .ensures) (filled-none _ (replicate limits.envelopes (paddedRow [])));
       lasts = rw sub-zero;
     }
 
@@ -60,11 +61,11 @@ loop-again c =
     }
 
 -- the rows and the last of them, made into the answer
-made : (kept last : Row) (rows : List (List ℤ)) (row : List Row) (limit : ℕ) → _≡_ {A = Rows} (record { row = row; used = limit }) (heldRows rows) → last ≡ lastOf kept rows → _≡_ {A = ResolvedKind} (record { rows = record { row = row; used = limit }; kept = last }) (resolvedFrom kept rows)
+made : (kept last : Row) (rows : List (List ℤ)) (row : List Row) (limit : ℕ) → _≡_ {A = Rows} (record { row = row; used = limit }) (paddedRows rows) → last ≡ lastOf kept rows → _≡_ {A = ResolvedKind} (record { rows = record { row = row; used = limit }; kept = last }) (resolvedFrom kept rows)
 made kept last rows row limit p q = rw (p, q)
 
 -- the counts that were limited, and what the first envelope starts from, are the definition's
-defined : (kind : Kind) (kept : Row) (envelopes count : ℕ) (bytes : List ℕ) (limit parameters : ℕ) (start : List ℤ) → parameters ≡ min count 34 → limit ≡ min envelopes 4 → start ≡ startOf kept parameters → resolvedFrom kept (rowsOf kind parameters start bytes limit) ≡ resolveKind kind kept envelopes count bytes
+defined : (kind : Kind) (kept : Row) (envelopes count : ℕ) (bytes : List ℕ) (limit parameters : ℕ) (start : List ℤ) → parameters ≡ min count 34 → limit ≡ min envelopes limits.envelopes → start ≡ startOf kept parameters → resolvedFrom kept (rowsOf kind parameters start bytes limit) ≡ resolveKind kind kept envelopes count bytes
 unfolding resolveKind
 defined kind kept envelopes count bytes limit parameters start p l s = rw (s, p, l)
 
@@ -86,21 +87,6 @@ returns c =
 pub resolve-kind-spec : {M : Type 1} → statement M
 resolve-kind-spec =
     tie.close
-    (tie.spec
-    Inv-loop
-    μ-loop
-    (λ c κs. search needs)
-    (λ c κs. search needs)
-    (λ c κs. search needs)
-    (λ c κs. search needs)
-    loop-holds
-    (λ c κs. search needs)
-    (λ c. search needs)
-    (λ c. search needs)
-    (λ c. search needs)
-    (λ c. search needs)
-    (λ c. search needs)
-    (λ c. search needs)
-    loop-again
-    (λ c. search needs)
-    returns)
+    (tie.spec Inv-loop μ-loop (λ c κs. search needs) (λ c κs. search needs) (λ c κs. search needs) (λ c κs. search needs) loop-holds
+    (λ c κs. search needs) (λ c. search needs) (λ c. search needs) (λ c. search needs) (λ c. search needs) (λ c. search needs) (λ c. search needs)
+    loop-again (λ c. search needs) returns)

@@ -7,7 +7,8 @@ use borrow.Author.Needs.{needs}
 use lib.Ieee.{Float}
 use lib.ListN.{length, length-map}
 use Rattle.layout.specs.Numbers.{bandsOf}
-use Rattle.ps_stereo_envelope.proofs.Filling.{few-bands}
+use Rattle.layout.proofs.Bounds.{bounds}
+use Rattle.limits.specs.Limits as limits
 use Rattle.ps_stereo_borders.specs.Steps.{replaced}
 use Rattle.ps_stereo_borders.proofs.Matrices.{by-parts}
 use Rattle.ps_stereo_borders.proofs.Rows.{after-long, matrices-kept}
@@ -18,7 +19,7 @@ whole : (c : tie.Start) → length (c .args .state .matrices) ≡ 272
 whole c = sym (length-map (c .args .state .matrices) _) ∙ c .good .1 .1 .1 .1 .1 .0 .1 .1 .0 .1 .0 .1
 
 few : (c : tie.After-bands) → 8 * c .bands .result ≤ 272
-few c = omega (arith, c .bands .ensures, few-bands (c .before .before .before .before .args .layout))
+few c = omega (arith, c .bands .ensures, bounds (c .before .before .before .before .args .layout) .bands)
 
 size : tie.Need-mul-copy
 size c = omega (arith, few c)
@@ -27,7 +28,7 @@ lent : tie.Need-slice-aggregate-copy
 lent c = sym (whole (c .before .before .before .before .before .before .before))
 
 -- the rows after the envelopes are as long as they were
-long : (c : tie.After-envelopes) → length (c .envelopes .last .1 .1 .1 .1 .1 .1 .0) ≡ 1360
+long : (c : tie.After-envelopes) → length (c .envelopes .last .1 .1 .1 .1 .1 .1 .0) ≡ limits.matrices
 long c =
     let s = c .before .before in
     let a = s .args in

@@ -4,13 +4,14 @@ use Prim.Native.Nat.{ℕ, _*_, _≤_}
 use native.Mathlib.Omega.{arith}
 use borrow.Author.Needs.{needs}
 use lib.ListN.{length}
-use Rattle.ps_stereo_envelope.proofs.Filling.{few-bands}
+use Rattle.layout.proofs.Bounds.{bounds}
+use Rattle.limits.specs.Limits as limits
 use Rattle.ps_stereo_borders.specs.Steps.{replaced}
 use Rattle.ps_stereo_borders.proofs.start.Statement.{statement}
 use Rattle.ps_stereo_borders.proofs.start.Tie as tie
 
 few : (c : tie.After-bands) → 8 * c .bands .result ≤ 272
-few c = omega (arith, c .bands .ensures, few-bands (c .before .args .layout))
+few c = omega (arith, c .bands .ensures, bounds (c .before .args .layout) .bands)
 
 size : tie.Need-mul-copy
 size c = omega (arith, few c)
@@ -18,7 +19,7 @@ size c = omega (arith, few c)
 whole : (c : tie.After-copy-arg) → length (c .before .before .args .matrices .now) ≡ 272
 whole c = c .copy-arg .given .0
 
-long : (c : tie.After-copy-arg2) → length (c .before .before .before .args .rows .now) ≡ 1360
+long : (c : tie.After-copy-arg2) → length (c .before .before .before .args .rows .now) ≡ limits.matrices
 long c = c .copy-arg2 .given .0 .1
 
 copy-requires : tie.Need-copy-requires

@@ -8,7 +8,7 @@ use lib.IntN.{ℤ}
 use lib.ListN.{length, length-map}
 use lib.Seq.{length-take-le}
 use Rattle.calls.specs.Cues.{mappedRow}
-use Rattle.ps_map.specs.Maps.{mapRow, heldRow}
+use Rattle.ps_map.specs.Maps.{mapRow, paddedRow}
 use Rattle.ps_stereo_cues.proofs.Rows.{used-indices}
 use Rattle.ps_stereo_cues.proofs.mapped.Statement.{statement}
 use Rattle.ps_stereo_cues.proofs.mapped.Tie as tie
@@ -26,7 +26,7 @@ unfolding mappedRow
 returns c =
     let u = c .before .before .before in
     c .map-row .ensures
-    ∙ ap (λ (v : List ℤ). heldRow (mapRow v (u .before .before .args .layout))) (used-indices (u .before .envelope-row .result) _ (u .used .result) (u .before .envelope-row .ensures) (u .used .ensures))
+    ∙ ap (λ (v : List ℤ). paddedRow (mapRow v (u .before .before .args .layout))) (used-indices (u .before .envelope-row .result) _ (u .used .result) (u .before .envelope-row .ensures) (u .used .ensures))
 
 pub mapped-spec : {M : Type 1} → statement M
 mapped-spec = tie.close (tie.spec (λ c κs. search needs) (λ c κs. search needs) (λ c. room (c .before)) part-long (λ c κs. search needs) returns)

@@ -8,10 +8,11 @@ use lib.IntN.{ℤ, pos}
 use lib.ListN.{length, take, length-map}
 use lib.Seq.{length-take-le}
 use Rattle.calls.specs.Cues.{mappedPhases, indicesOf, envelopeRow}
-use Rattle.cue.specs.Fields.{byMode}
-use Rattle.lists.proofs.Held.{held-length}
-use Rattle.ps_map.specs.Maps.{mapRow, heldRow, extendedTo}
-use Rattle.ps_stereo_cues.proofs.Rows.{used-indices, few-places, extended-first}
+use Rattle.cue.specs.Fields.{parametersOf}
+use Rattle.cue.proofs.Sizes.{parameters-small}
+use Rattle.lists.proofs.Padded.{padded-length}
+use Rattle.ps_map.specs.Maps.{mapRow, paddedRow, extendedTo}
+use Rattle.ps_stereo_cues.proofs.Rows.{used-indices, extended-first}
 use Rattle.ps_stereo_cues.proofs.mapped_phases.Statement.{statement}
 use Rattle.ps_stereo_cues.proofs.mapped_phases.Tie as tie
 
@@ -23,37 +24,37 @@ room c =
 part-long : tie.Need-slice-aggregate-extended
 part-long c = let u = c .before .before .before .before in sym (length-take-le (u .used .result) (u .before .envelope-row .result .at) (room u))
 
-few : (c : tie.After-places) → c .places .result ≤ 34
-few c = omega (arith, c .places .ensures, few-places (c .before .before .before .before .before .args .config .iid .mode))
+few : (c : tie.After-parameters) → c .parameters .result ≤ 34
+few c = omega (arith, c .parameters .ensures, parameters-small (c .before .before .before .before .before .args .config .iid))
 
 -- the indices of the row
 abbrev first : tie.After-extended → List ℤ
 first c = let u = c .before .before .before .before .before in take (u .used .result) (u .before .envelope-row .result .at)
 
-extended-room : (c : tie.After-extended) → c .before .before .places .result ≤ length (c .extended .result)
+extended-room : (c : tie.After-extended) → c .before .before .parameters .result ≤ length (c .extended .result)
 extended-room c =
-    let long : length (c .extended .result) ≡ 34 = ap length (c .extended .ensures) ∙ held-length (pos 0) 34 (extendedTo (c .before .before .places .result) (first c)) in
+    let long : length (c .extended .result) ≡ 34 = ap length (c .extended .ensures) ∙ padded-length (pos 0) 34 (extendedTo (c .before .before .parameters .result) (first c)) in
     rw long (few (c .before .before))
 
 extended-long : tie.Need-slice-aggregate-map-row
-extended-long c = let e = c .before in sym (length-take-le (e .before .before .places .result) (e .extended .result) (extended-room e))
+extended-long c = let e = c .before in sym (length-take-le (e .before .before .parameters .result) (e .extended .result) (extended-room e))
 
 -- what is lent last are the indices, extended
 lent : (c : tie.After-extended) → let a = c .before .before .before .before .before .before .before .args in
-    take (c .before .before .places .result) (c .extended .result) ≡ extendedTo (byMode (a .config .iid .mode) 10 20 34) (indicesOf (envelopeRow (a .kind) (a .e)))
+    take (c .before .before .parameters .result) (c .extended .result) ≡ extendedTo (parametersOf (a .config .iid)) (indicesOf (envelopeRow (a .kind) (a .e)))
 lent c =
     let p = c .before .before in
     let u = p .before .before .before in
-    ap (take (p .places .result)) (c .extended .ensures)
-    ∙ extended-first (p .places .result) (first c) (few p)
-    ∙ ap (λ (n : ℕ). extendedTo n (first c)) (p .places .ensures)
-    ∙ ap (extendedTo (byMode (u .before .before .args .config .iid .mode) 10 20 34)) (used-indices (u .before .envelope-row .result) _ (u .used .result) (u .before .envelope-row .ensures) (u .used .ensures))
+    ap (take (p .parameters .result)) (c .extended .ensures)
+    ∙ extended-first (p .parameters .result) (first c) (few p)
+    ∙ ap (λ (n : ℕ). extendedTo n (first c)) (p .parameters .ensures)
+    ∙ ap (extendedTo (parametersOf (u .before .before .args .config .iid))) (used-indices (u .before .envelope-row .result) _ (u .used .result) (u .before .envelope-row .ensures) (u .used .ensures))
 
 returns : tie.Need-returns
 unfolding mappedPhases
 returns c =
     let e = c .before .before in
-    c .map-row .ensures ∙ ap (λ (v : List ℤ). heldRow (mapRow v (e .before .before .before .before .before .before .before .args .layout))) (lent e)
+    c .map-row .ensures ∙ ap (λ (v : List ℤ). paddedRow (mapRow v (e .before .before .before .before .before .before .before .args .layout))) (lent e)
 
 pub mapped-phases-spec : {M : Type 1} → statement M
 mapped-phases-spec =

@@ -3,7 +3,7 @@ use borrow.Author.Needs.{needs}
 use mir.Syntax.{w8}
 use Rattle.integers.proofs.Bits.{back}
 use Rattle.standard.specs.Mixing.{unrotated}
-use Rattle.ps_stereo_envelope.proofs.Literals.{none}
+use Rattle.standard.proofs.Literals.{zero-is}
 use Rattle.ps_stereo_envelope.proofs.base.Statement.{statement}
 use Rattle.ps_stereo_envelope.proofs.base.Tie as tie
 
@@ -14,7 +14,7 @@ returns c =
     let first = second .before .before in
     let i = first .before .args .indices in
     rw (
-      none,
+      zero-is,
       c .set .ensures,
       second .before .level .ensures,
       c .before .natural-index .ensures,

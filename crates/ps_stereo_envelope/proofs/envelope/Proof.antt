@@ -1,4 +1,4 @@
--- `ps_stereo_envelope::envelope` meets its contract: a fifth envelope changes nothing, and the others fill their row and move the indices that move.
+-- `ps_stereo_envelope::envelope` meets its contract: an envelope past the last changes nothing, and the others fill their row and move the indices that move.
 -- Assumes nothing.
 use mathlib.Core.Path.{_≡_, ap, _∙_}
 use mathlib.Core.Bool.{cond}
@@ -7,7 +7,8 @@ use native.Mathlib.Omega.{arith}
 use borrow.Author.Needs.{needs}
 use Rattle.layout.specs.Numbers.{bandsOf}
 use Rattle.ps_stereo_envelope.specs.Envelope.{rowsAfter}
-use Rattle.ps_stereo_envelope.proofs.Filling.{few-bands, rows-late, rows-filled}
+use Rattle.layout.proofs.Bounds.{bounds}
+use Rattle.ps_stereo_envelope.proofs.Filling.{rows-late, rows-filled}
 use Rattle.ps_stereo_envelope.proofs.Kept.{few-moving, kept-late, kept-moved}
 use Rattle.ps_stereo_envelope.proofs.envelope.Statement.{statement}
 use Rattle.ps_stereo_envelope.proofs.envelope.Tie as tie
@@ -20,7 +21,7 @@ late c =
     )
 
 few : (c : tie.After-bands) → c .bands .result ≤ 34
-few c = omega (arith, c .bands .ensures, few-bands (c .before .before .args .layout))
+few c = omega (arith, c .bands .ensures, bounds (c .before .before .args .layout) .bands)
 
 fill-requires : tie.Need-fill-requires
 fill-requires c κs =

@@ -7,6 +7,7 @@ use lib.IntN.{pos}
 use lib.ListN.{length, getD}
 use mir.Syntax.{w8}
 use Rattle.integers.proofs.Bits.{back}
+use Rattle.limits.specs.Limits as limits
 use Rattle.planar.specs.Frame.{numbersOf}
 use Rattle.ps_stereo_envelope.specs.Envelope.{numbersAt}
 use Rattle.ps_stereo_envelope.proofs.Filling.{Filling, filling-none, filling-inside, filling-lent, filling-more, filling-long, filling-all}
@@ -33,7 +34,7 @@ module _ (c : tie.After-matrix Inv-loop μ-loop) where
   room : start .args .at + 8 * turn .loop .b + 8 ≤ length (start .args .rows .now)
   room = omega (arith, start .pre .long, start .pre .few, turn .loop .inv .0, c .before .before .before .before .before .loop-test .taken)
 
-  small : start .args .at + 8 * turn .loop .b + 8 ≤ 1360
+  small : start .args .at + 8 * turn .loop .b + 8 ≤ limits.matrices
   small = omega (arith, start .pre .near, start .pre .few, turn .loop .inv .0, c .before .before .before .before .before .loop-test .taken)
 
   -- the band's indices are read as they stand

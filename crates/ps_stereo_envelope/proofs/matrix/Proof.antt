@@ -8,7 +8,8 @@ use lib.ListN.{getD}
 use mir.Syntax.{w8}
 use Rattle.integers.proofs.Bits.{back}
 use Rattle.standard.specs.Mixing.{directionOf}
-use Rattle.ps_stereo_envelope.specs.Envelope.{ipdOf, opdOf, keptOf}
+use Rattle.planar.specs.Frame.{ipdOf, opdOf}
+use Rattle.ps_stereo_envelope.specs.Envelope.{keptOf}
 use Rattle.ps_stereo_envelope.specs.Loops.{cueIn}
 use Rattle.ps_stereo_envelope.proofs.Matrices.{without-phase, with-phase}
 use Rattle.ps_stereo_envelope.proofs.matrix.Statement.{statement}

@@ -1,4 +1,4 @@
--- `ps_stereo_slots::fractions` meets its contract: at most four envelopes are filled. Assumes nothing.
+-- `ps_stereo_slots::fractions` meets its contract: the envelopes up to the limit are filled. Assumes nothing.
 use mathlib.Core.Path.{_∙_}
 use borrow.Author.Needs.{needs}
 use Rattle.ps_stereo_slots.specs.Slots.{fractionsAfter}

@@ -8,6 +8,7 @@ use borrow.Kind.Array.{eInt, good-length}
 use mir.Syntax.{w8}
 use native.Mathlib.Omega.{arith}
 use lib.ListN.{length}
+use Rattle.limits.specs.Limits as limits
 use Rattle.planar.specs.Frame.{matrixAt}
 use Rattle.ps_stereo_slots.specs.Slots.{fractionAt, borderMatrix, runsAfter}
 use Rattle.ps_stereo_slots.proofs.Borders.{runs-taken}
@@ -25,7 +26,7 @@ returns c =
     let u = w .before in
     let g = u .before .before in
     let s = g .args in
-    let few : u .least .result ≤ length (s .borders) = omega (arith, u .least .ensures, good-length (eInt w8) 4 (s .borders) _ (g .good .1 .1 .0)) in
+    let few : u .least .result ≤ length (s .borders) = omega (arith, u .least .ensures, good-length (eInt w8) limits.envelopes (s .borders) _ (g .good .1 .1 .0)) in
     rw (lt-ltb (s .band) 34 (u .before .if1 .left), ← u .least .ensures, ← w .least2 .ensures)
     (c .envelopes .ensures
     ∙ runs-taken (s .borders) (u .least .result) (fractionAt (s .fractions .now)) (borderMatrix (s .rows .now) (s .band)) few (w .least2 .result) (matrixAt (s .out .now)))

@@ -1,4 +1,4 @@
--- `ps_stereo_slots::regions` meets its contract: the regions of at most four envelopes are filled in. Assumes nothing.
+-- `ps_stereo_slots::regions` meets its contract: the regions of the envelopes up to the limit are filled in. Assumes nothing.
 use borrow.Author.Needs.{needs}
 use Rattle.ps_stereo_slots.specs.Envelopes.{regionsOf}
 use Rattle.ps_stereo_slots.proofs.regions.Statement.{statement}

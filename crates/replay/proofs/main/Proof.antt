@@ -2,12 +2,13 @@
 use borrow.Author.Needs.{needs}
 use mathlib.Core.Path.{_≡_}
 use lib.ListN.{length}
+use Rattle.ps_memory.specs.Place.{numbers}
 use Rattle.replay.proofs.main.Statement.{statement}
 use Rattle.replay.proofs.main.Tie as tie
 
 abbrev Inv-loop : tie.InvT-loop
 Inv-loop memory₀ line₀ bytes₀ input₀ left₀ right₀ replay₀ turns₀ memory line bytes input left right replay turns =
-    (2372 ≡ length memory) × (2048 ≡ length line) × (67584 ≡ length bytes) × (5632 ≡ length input) × (4352 ≡ length left) × (4352 ≡ length right)
+    (numbers ≡ length memory) × (2048 ≡ length line) × (67584 ≡ length bytes) × (5632 ≡ length input) × (4352 ≡ length left) × (4352 ≡ length right)
 
 abbrev μ-loop : tie.MeasureT-loop
 μ-loop memory₀ line₀ bytes₀ input₀ left₀ right₀ replay₀ turns₀ memory line bytes input left right replay turns = turns

@@ -1,26 +1,23 @@
 -- `cue::digits::is_digit` meets its contract: each arm is the case of `isDigit` that its tests pick. Assumes nothing.
-use borrow.Author.Tests.{lt-ltb, le-ltb}
+use native.Mathlib.Omega.{arith}
+use Rattle.cue.proofs.Characters.{inside, below, above}
 use Rattle.cue.proofs.digits.is_digit.Statement.{statement}
 use Rattle.cue.proofs.digits.is_digit.Tie as tie
 
 decimal : tie.Need-returns
-decimal c = simp (lt-ltb _ _ (c .if2 .taken), le-ltb _ _ (c .before .if1 .left))
+decimal c = rw (inside 48 57 _ (c .before .if1 .left) (c .if2 .taken))
 
 letter : tie.Need-returns-2
-letter c =
-    simp
-    (lt-ltb _ _ (c .if4 .taken), le-ltb _ _ (c .before .if3 .left), le-ltb _ _ (c .before .before .if2 .left), le-ltb _ _ (c .before .before .before .if1 .left))
+letter c = rw (above 48 57 _ (c .before .before .if2 .left), inside 97 102 _ (c .before .if3 .left) (c .if4 .taken))
 
-below : tie.Need-returns-3
-below c = simp (lt-ltb _ _ (c .if1 .taken))
+lowest : tie.Need-returns-3
+lowest c = rw (below 48 57 _ (c .if1 .taken), below 97 102 (c .before .args .c) (omega arith))
 
-between : tie.Need-returns-4
-between c = simp (lt-ltb _ _ (c .if3 .taken), le-ltb _ _ (c .before .if2 .left), le-ltb _ _ (c .before .before .if1 .left))
+middle : tie.Need-returns-4
+middle c = rw (above 48 57 _ (c .before .if2 .left), below 97 102 _ (c .if3 .taken))
 
-above : tie.Need-returns-5
-above c =
-    simp
-    (le-ltb _ _ (c .if4 .left), le-ltb _ _ (c .before .if3 .left), le-ltb _ _ (c .before .before .if2 .left), le-ltb _ _ (c .before .before .before .if1 .left))
+highest : tie.Need-returns-5
+highest c = rw (above 48 57 _ (c .before .before .if2 .left), above 97 102 _ (c .if4 .left))
 
 pub is-digit-spec : {M : Type 1} → statement M
-is-digit-spec = tie.close (tie.spec decimal letter below between above)
+is-digit-spec = tie.close (tie.spec decimal letter lowest middle highest)

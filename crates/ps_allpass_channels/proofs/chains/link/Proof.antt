@@ -5,7 +5,7 @@ use Prim.Native.Nat.{_+_}
 use native.Mathlib.Omega.{arith}
 use lib.ListN.{length-set}
 use Rattle.standard.specs.Channel.{linkState, linkOutput}
-use Rattle.ps_hybrid_synthesis.specs.Lanes.{on}
+use Rattle.planar.specs.Lanes.{on}
 use Rattle.ps_allpass_channels.proofs.LaneStores.{written}
 use Rattle.ps_allpass_channels.proofs.chains.link.Statement.{statement}
 use Rattle.ps_allpass_channels.proofs.chains.link.Tie as tie

@@ -1,7 +1,7 @@
 -- `ps_allpass_channels::chains::slot` meets its contract: what is read is what the lane holds, and its links are those of the chain. Assumes nothing.
 use mathlib.Core.Path.{_∙_}
 use borrow.Author.Needs.{needs}
-use Rattle.ps_hybrid_synthesis.specs.Lanes.{on}
+use Rattle.planar.specs.Lanes.{on}
 use Rattle.ps_allpass_channels.proofs.LaneSlots.{stepped}
 use Rattle.ps_allpass_channels.proofs.chains.slot.Statement.{statement}
 use Rattle.ps_allpass_channels.proofs.chains.slot.Tie as tie

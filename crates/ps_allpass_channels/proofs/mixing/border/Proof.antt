@@ -7,6 +7,7 @@ use native.Mathlib.Omega.{arith}
 use borrow.Author.Needs.{needs}
 use lib.Ieee.{Float}
 use lib.ListN.{length}
+use Rattle.limits.specs.Limits as limits
 use Rattle.ps_allpass_channels.specs.Sides.{Border, OtherBorders}
 use Rattle.ps_allpass_channels.proofs.Ways.{border-none, border-more, others-none, others-more}
 use Rattle.ps_allpass_channels.proofs.mixing.border.Statement.{statement}
@@ -14,7 +15,7 @@ use Rattle.ps_allpass_channels.proofs.mixing.border.Tie as tie
 
 record Inv (rows : List Float) (map : List ℕ) (k lanes e : ℕ) (out₀ out : List Float) (lane : ℕ) : Type 0 where
   pub within : lane ≤ lanes
-  pub long : length out ≡ 160
+  pub long : length out ≡ 32 * limits.borders
   pub laid : Border rows map k lane e out
   pub others : OtherBorders e out₀ out
 

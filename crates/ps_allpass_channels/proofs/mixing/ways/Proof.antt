@@ -1,18 +1,19 @@
 -- `ps_allpass_channels::mixing::ways` meets its contract: each turn lays one border more. Assumes nothing.
 use mathlib.Core.Path.{_≡_, _∙_}
 use mathlib.Core.List.{List}
-use Prim.Native.Nat.{ℕ, _+_, _-_, _<_, _≤_}
+use Prim.Native.Nat.{ℕ, _+_, _*_, _-_, _<_, _≤_}
 use native.Mathlib.Omega.{arith}
 use borrow.Author.Needs.{needs}
 use lib.Ieee.{Float}
 use lib.ListN.{length}
+use Rattle.limits.specs.Limits as limits
 use Rattle.ps_allpass_channels.proofs.Ways.{FirstBorders, borders-none, borders-more, borders-all}
 use Rattle.ps_allpass_channels.proofs.mixing.ways.Statement.{statement}
 use Rattle.ps_allpass_channels.proofs.mixing.ways.Tie as tie
 
 record Inv (rows : List Float) (map : List ℕ) (k lanes count : ℕ) (out : List Float) (e : ℕ) : Type 0 where
   pub within : e ≤ count + 1
-  pub long : length out ≡ 160
+  pub long : length out ≡ 32 * limits.borders
   pub laid : FirstBorders rows map k lanes e out
 
 abbrev Inv-loop : tie.InvT-loop

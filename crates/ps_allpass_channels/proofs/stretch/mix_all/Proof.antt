@@ -7,7 +7,7 @@ use lib.Ieee.{nan}
 use lib.ListN.{getD}
 use Rattle.complex.specs.Operations.{scaled}
 use Rattle.ps_map.specs.Bands.{conjugatedOf}
-use Rattle.ps_hybrid_synthesis.specs.Lanes.{on}
+use Rattle.planar.specs.Lanes.{on}
 use Rattle.standard.specs.Mixing.{leftOf, rightOf}
 use Rattle.ps_allpass_channels.specs.Tape.{fourOf}
 use Rattle.ps_allpass_channels.specs.Sides.{duckOn, marksFrom}

@@ -1,9 +1,10 @@
 -- `ps_allpass_channels::stretch::stretch` meets its contract: each turn runs one slot more of four lanes. Assumes nothing.
 use mathlib.Core.Path.{_≡_, refl, _∙_}
-use Prim.Native.Nat.{_-_, _<_, _≤_}
+use Prim.Native.Nat.{_*_, _-_, _<_, _≤_}
 use native.Mathlib.Omega.{arith}
 use borrow.Author.Needs.{needs}
 use lib.ListN.{length}
+use Rattle.limits.specs.Limits as limits
 use Rattle.ps_allpass_channels.specs.Lanes.{chainOn}
 use Rattle.ps_allpass_channels.specs.Sides.{matrixOn, duckOn, regionMatrix, marksFrom}
 use Rattle.ps_allpass_channels.proofs.Fours.{four-is}
@@ -28,8 +29,8 @@ abbrev entry : tie.After-least2 Inv-loop μ-loop → tie.Start Inv-loop μ-loop
 entry c = origin (c .before .before .before .before .before .before .before .before .before .before)
 
 -- the borders that a way is between
-borders : (c : tie.After-least Inv-loop μ-loop) → (length (origin (c .before .before .before .before .before) .args .ways .now) ≡ 160)
-    × ((origin (c .before .before .before .before .before) .args .e < 5) × (c .least .result < 5))
+borders : (c : tie.After-least Inv-loop μ-loop) → (length (origin (c .before .before .before .before .before) .args .ways .now) ≡ 32 * limits.borders)
+    × ((origin (c .before .before .before .before .before) .args .e < limits.borders) × (c .least .result < limits.borders))
 borders c =
     let start = origin (c .before .before .before .before .before) in
     (start .pre .1 .ways-long, (omega (arith, start .pre .0), omega (arith, start .pre .0, c .least .ensures)))
@@ -86,7 +87,7 @@ loop-again c =
     let a = start .args in
     let more : l .n < a .end = turn .loop-test .taken in
     let within : a .e ≤ a .count = start .pre .0 .1 .0 in
-    let few : a .count ≤ 4 = start .pre .0 .1 .1 .0 in
+    let few : a .count ≤ limits.envelopes = start .pre .0 .1 .1 .0 in
     let chains = four-is (λ i. chainOn i (a .constants .now)) (chained .before .before .before .chain .ensures) (chained .before .before .chain2 .ensures) (chained .before .chain3 .ensures) (chained .chain4 .ensures) in
     let matrices =
     four-is (λ i. regionMatrix (a .e) (a .fractions .now) (a .count) (matrixOn i (a .ways .now)) (l .n))

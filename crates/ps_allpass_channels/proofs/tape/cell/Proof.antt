@@ -1,7 +1,7 @@
 -- `ps_allpass_channels::tape::cell` meets its contract: the two numbers stand where the lane has them. Assumes nothing.
 use mathlib.Core.Path.{refl}
 use borrow.Author.Needs.{needs}
-use Rattle.ps_hybrid_synthesis.specs.Lanes.{on}
+use Rattle.planar.specs.Lanes.{on}
 use Rattle.ps_allpass_channels.proofs.tape.cell.Statement.{statement}
 use Rattle.ps_allpass_channels.proofs.tape.cell.Tie as tie
 

@@ -8,8 +8,8 @@ use lib.Ieee.{Float}
 use lib.ListN.{length, length-set}
 use Rattle.planar.specs.Cells.{cell, stored}
 use Rattle.planar.proofs.Cells.{stored-length}
-use Rattle.ps_decorr_allpass.proofs.Outputs.{overwritten-none, overwritten-more}
-use Rattle.ps_hybrid_synthesis.specs.Lanes.{on}
+use Rattle.planar.proofs.Overwritten.{overwritten-none, overwritten-more}
+use Rattle.planar.specs.Lanes.{on}
 use Rattle.ps_allpass_channels.specs.Tape.{Gathered}
 use Rattle.ps_allpass_channels.proofs.tape.gather.Statement.{statement}
 use Rattle.ps_allpass_channels.proofs.tape.gather.Tie as tie

@@ -8,7 +8,7 @@ use native.Mathlib.Omega.{arith}
 use lib.Ieee.{Float}
 use lib.ListN.{length}
 use Rattle.lists.proofs.Parts.{part-length}
-use Rattle.ps_hybrid_synthesis.specs.Lanes.{on}
+use Rattle.planar.specs.Lanes.{on}
 use Rattle.ps_allpass_channels.specs.Lanes.{memoryLeft}
 use Rattle.ps_allpass_channels.proofs.LaneEnds.{Kept, kept-none, kept-long, kept-more, kept-all}
 use Rattle.ps_allpass_channels.proofs.tape.leave.Statement.{statement}

@@ -1,7 +1,7 @@
 -- `ps_allpass_channels::turn::turn` meets its contract: each lane's channel is run, and its sides go into their columns. Assumes nothing.
 use native.Mathlib.Omega.{arith}
 use borrow.Author.Needs.{needs}
-use Rattle.ps_allpass_channels.proofs.Numbers.{all-pass-small}
+use Rattle.layout.proofs.Bounds.{bounds}
 use Rattle.ps_allpass_channels.proofs.TurnLanes.{lent-banded, lefts-heard, rights-heard, memory-left}
 use Rattle.ps_allpass_channels.proofs.Turning.{turned-lanes}
 use Rattle.ps_allpass_channels.proofs.turn.turn.Statement.{statement}
@@ -10,26 +10,26 @@ use Rattle.ps_allpass_channels.proofs.turn.turn.Tie as tie
 constants-requires : tie.Need-constants-requires
 constants-requires c κs =
     let start = c .before .before .before .before in
-    (omega (arith, start .pre .0 .0, all-pass-small (start .args .layout)), (start .pre .0 .1 .1, search needs))
+    (omega (arith, start .pre .0 .0, bounds (start .args .layout) .all-pass), (start .pre .0 .1 .1, search needs))
 
 ways-requires : tie.Need-ways-requires
 ways-requires c κs =
     let start = c .before .before .before .before .before .before .before in (
-      (omega (arith, start .pre .0 .0, all-pass-small (start .args .layout)), (start .pre .0 .1 .1, start .pre .1 .0 .envelopes)),
+      (omega (arith, start .pre .0 .0, bounds (start .args .layout) .all-pass), (start .pre .0 .1 .1, start .pre .1 .0 .envelopes)),
       (c .before .ways-arg .given .0, (lent-banded (start .pre .1 .0), search needs)),
     )
 
 ducks-requires : tie.Need-ducks-requires
 ducks-requires c κs =
     let start = c .before .before .before .before .before .before .before .before .before .before in (
-      (omega (arith, start .pre .0 .0, all-pass-small (start .args .layout)), (start .pre .0 .1 .0, (start .pre .0 .1 .1, start .pre .1 .0 .few))),
+      (omega (arith, start .pre .0 .0, bounds (start .args .layout) .all-pass), (start .pre .0 .1 .0, (start .pre .0 .1 .1, start .pre .1 .0 .few))),
       (c .before .ducks-arg .given .0, (lent-banded (start .pre .1 .0), search needs)),
     )
 
 enter-requires : tie.Need-enter-requires
 enter-requires c κs =
     let start = c .before .before .before .before .before .before .before .before .before .before .before .before .before .before in (
-      (omega (arith, start .pre .0 .0, all-pass-small (start .args .layout)), (start .pre .0 .1 .0, (start .pre .0 .1 .1, start .pre .1 .0 .few))),
+      (omega (arith, start .pre .0 .0, bounds (start .args .layout) .all-pass), (start .pre .0 .1 .0, (start .pre .0 .1 .1, start .pre .1 .0 .few))),
       (start .pre .1 .1 .1, (c .before .enter-arg2 .given .0, search needs)),
     )
 
@@ -37,7 +37,7 @@ run-requires : tie.Need-run-requires
 run-requires c κs =
     let entered = c .before .before .before .before .before .before .before .before .before .before in
     let start = entered .before .before .before .before .before .before .before .before .before .before .before .before .before .before .before in (
-      (omega (arith, start .pre .0 .0, all-pass-small (start .args .layout)), (start .pre .1 .0 .envelopes, (start .pre .1 .0 .few, start .pre .1 .1 .0))),
+      (omega (arith, start .pre .0 .0, bounds (start .args .layout) .all-pass), (start .pre .1 .0 .envelopes, (start .pre .1 .0 .few, start .pre .1 .1 .0))),
       record {
         constants-long = c .before .before .before .before .before .before .before .before .run-arg2 .given .0;
         ways-long = c .before .before .before .before .before .before .run-arg4 .given .0;
@@ -54,7 +54,7 @@ leave-requires c κs =
     let ran = c .before .before .before in
     let entered = ran .before .before .before .before .before .before .before .before .before .before .before in
     let start = entered .before .before .before .before .before .before .before .before .before .before .before .before .before .before .before in (
-      (omega (arith, start .pre .0 .0, all-pass-small (start .args .layout)), (start .pre .0 .1 .1, start .pre .1 .0 .few)),
+      (omega (arith, start .pre .0 .0, bounds (start .args .layout) .all-pass), (start .pre .0 .1 .1, start .pre .1 .0 .few)),
       (start .pre .1 .1 .1, c .leave-arg3 .given .0),
     )
 
@@ -86,16 +86,5 @@ returns c =
 pub turn-spec : {M : Type 1} → statement M
 turn-spec =
     tie.close
-    (tie.spec
-    constants-requires
-    ways-requires
-    ducks-requires
-    enter-requires
-    run-requires
-    leave-requires
-    (λ c κs. search needs)
-    (λ c κs. search needs)
-    (λ c. search needs)
-    (λ c. search needs)
-    (λ c. search needs)
-    returns)
+    (tie.spec constants-requires ways-requires ducks-requires enter-requires run-requires leave-requires (λ c κs. search needs) (λ c κs. search needs)
+    (λ c. search needs) (λ c. search needs) (λ c. search needs) returns)

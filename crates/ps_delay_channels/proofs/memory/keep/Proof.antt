@@ -10,7 +10,7 @@ use lib.ListN.{length, length-set}
 use Rattle.complex.specs.declared.Complex.{Complex}
 use Rattle.planar.specs.Cells.{cell, planar, overwritten}
 use Rattle.planar.proofs.Cells.{stored-length}
-use Rattle.ps_decorr_allpass.proofs.Outputs.{overwritten-none}
+use Rattle.planar.proofs.Overwritten.{overwritten-none}
 use Rattle.ps_delay_channels.specs.Rows.{earlier}
 use Rattle.ps_delay_channels.proofs.Bands.{earlier-kept, earlier-came}
 use Rattle.ps_delay_channels.proofs.Keeping.{kept-more, kept-all}

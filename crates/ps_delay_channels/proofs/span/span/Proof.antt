@@ -7,7 +7,8 @@ use borrow.Author.Needs.{needs}
 use lib.ListN.{getD}
 use Rattle.layout.specs.Numbers.{allPassOf, shortDelayOf, channelsOf}
 use Rattle.ps_map.specs.Bands.{bandOf}
-use Rattle.ps_delay_channels.proofs.Numbers.{placed, band-at, band-below}
+use Rattle.layout.proofs.Bounds.{bounds}
+use Rattle.ps_delay_channels.proofs.Numbers.{band-at, band-below}
 use Rattle.ps_delay_channels.proofs.Spans.{span-frame, span-long, span-short, spanned-long, spanned-short}
 use Rattle.ps_delay_channels.proofs.span.span.Statement.{statement}
 use Rattle.ps_delay_channels.proofs.span.span.Tie as tie
@@ -17,39 +18,39 @@ use Rattle.ps_delay_channels.proofs.span.span.Tie as tie
 element-copy-out-wide : tie.Need-element-copy-out-wide
 element-copy-out-wide c =
     let start = c .before .before .before in
-    let m = placed (start .args .layout) in
+    let m = bounds (start .args .layout) in
     omega (arith, start .pre .0 .1)
 
 add-from : tie.Need-add-from
 add-from c =
     let start = c .before .before .before .before .before .before .before in
-    let m = placed (start .args .layout) in
+    let m = bounds (start .args .layout) in
     omega (arith, start .pre .0 .1, c .before .split .ensures)
 
 sub-from : tie.Need-sub-from
 sub-from c =
     let start = c .before .before .before .before .before .before .before in
-    let m = placed (start .args .layout) in
+    let m = bounds (start .args .layout) in
     omega (arith, start .pre .0 .0, c .unsplit-from .ensures, c .before .split .ensures)
 
 -- ---- the long one
 
 span-end-requires : tie.Need-span-end-requires
 span-end-requires c κs =
-    let m = placed (c .before .before .before .before .before .before .before .before .before .args .layout) in
+    let m = bounds (c .before .before .before .before .before .before .before .before .before .args .layout) in
     (c .if1 .taken, omega (arith, c .before .short-delay .ensures))
 
 add-first : tie.Need-add-first
 add-first c =
     let split = c .before .before .before .before .before in
-    let m = placed (split .before .before .before .before .before .before .args .layout) in
+    let m = bounds (split .before .before .before .before .before .before .args .layout) in
     omega (arith, c .all-pass .ensures, split .split .ensures)
 
 sub-first : tie.Need-sub-first
 sub-first c =
     let unsplit = c .before .before .before .before in
     let split = unsplit .before in
-    let m = placed (split .before .before .before .before .before .before .args .layout) in
+    let m = bounds (split .before .before .before .before .before .before .args .layout) in
     omega (arith, c .all-pass .ensures, unsplit .unsplit-from .ensures, split .split .ensures)
 
 sub-mix-span : tie.Need-sub-mix-span
@@ -70,7 +71,7 @@ mix-span-requires c κs =
     let first = band-at (s .layout) (allPassOf (s .layout)) _ _ _ (passed .all-pass .ensures) (split .split .ensures) (unsplit .unsplit-from .ensures) in
     let within : ended .span-end .result ≤ shortDelayOf (s .layout) = omega (arith, ended .span-end .ensures .1 .1, shorts .short-delay .ensures) in
     let some = ended .span-end .ensures .1 .0 in
-    let m = placed (s .layout) in (
+    let m = bounds (s .layout) in (
       (lent .shares, (c .before .before .before .before .mix-span-arg .given .0, rw band (band-below (s .layout) (s .k)))),
       (
         (
@@ -102,7 +103,7 @@ returns c =
     let first = band-at (s .layout) (allPassOf (s .layout)) _ _ _ (passed .all-pass .ensures) (split .split .ensures) (unsplit .unsplit-from .ensures) in
     let within : ended .span-end .result ≤ shortDelayOf (s .layout) = omega (arith, ended .span-end .ensures .1 .1, shorts .short-delay .ensures) in
     let some = ended .span-end .ensures .1 .0 in
-    let m = placed (s .layout) in (
+    let m = bounds (s .layout) in (
       (some, omega arith),
       spanned-long (s .borders) (s .count) (s .input .now) (s .gains .now) (s .rows .now) (s .layout) (s .before .now) (s .short .now) (s .slots) (s .map .now) (s .k) (ended .span-end .result) _ _
           (lent .bands) (start .pre .0 .0) some (ended .span-end .ensures .0) (split .before .wide .ensures) from _ within first (mixed .mix-span .ensures .0) (mixed .mix-span .ensures .1),
@@ -113,14 +114,14 @@ returns c =
 span-end-requires-2 : tie.Need-span-end-requires-2
 span-end-requires-2 c κs =
     let start = c .before .before .before .before .before .before .before .before .before .before in
-    let m = placed (start .args .layout) in
+    let m = bounds (start .args .layout) in
     (omega (arith, start .pre .0 .1, c .channels .ensures), omega (arith, c .channels .ensures))
 
 add-first-2 : tie.Need-add-first-2
 add-first-2 c =
     let shorts = c .before .before .before in
     let split = shorts .before .before in
-    let m = placed (split .before .before .before .before .before .before .args .layout) in
+    let m = bounds (split .before .before .before .before .before .before .args .layout) in
     omega (arith, shorts .short-delay .ensures, split .split .ensures)
 
 sub-first-2 : tie.Need-sub-first-2
@@ -128,7 +129,7 @@ sub-first-2 c =
     let shorts = c .before .before .before in
     let unsplit = shorts .before in
     let split = unsplit .before in
-    let m = placed (split .before .before .before .before .before .before .args .layout) in
+    let m = bounds (split .before .before .before .before .before .before .args .layout) in
     omega (arith, shorts .short-delay .ensures, unsplit .unsplit-from .ensures, split .split .ensures)
 
 sub-mix-span-2 : tie.Need-sub-mix-span-2
@@ -188,29 +189,6 @@ returns-2 c =
 pub span-spec : {M : Type 1} → statement M
 span-spec =
     tie.close
-    (tie.spec
-    element-copy-out-wide
-    (λ c κs. search needs)
-    (λ c κs. search needs)
-    (λ c κs. search needs)
-    add-from
-    sub-from
-    (λ c κs. search needs)
-    span-end-requires
-    (λ c κs. search needs)
-    add-first
-    sub-first
-    sub-mix-span
-    mix-span-requires
-    same-length
-    same-length-2
-    returns
-    (λ c κs. search needs)
-    span-end-requires-2
-    add-first-2
-    sub-first-2
-    sub-mix-span-2
-    mix-span-requires-2
-    same-length-3
-    same-length-4
-    returns-2)
+    (tie.spec element-copy-out-wide (λ c κs. search needs) (λ c κs. search needs) (λ c κs. search needs) add-from sub-from (λ c κs. search needs)
+    span-end-requires (λ c κs. search needs) add-first sub-first sub-mix-span mix-span-requires same-length same-length-2 returns
+    (λ c κs. search needs) span-end-requires-2 add-first-2 sub-first-2 sub-mix-span-2 mix-span-requires-2 same-length-3 same-length-4 returns-2)

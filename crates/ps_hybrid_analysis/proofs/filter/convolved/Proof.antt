@@ -9,7 +9,7 @@ use Rattle.complex.specs.Operations.{sum, product}
 use Rattle.planar.specs.Cells.{cell}
 use Rattle.planar.proofs.Cells.{by-parts}
 use Rattle.ps_hybrid_analysis.specs.Stages.{convolved}
-use Rattle.ps_hybrid_analysis.proofs.Taps.{none}
+use Rattle.standard.proofs.Literals.{zero-is}
 use Rattle.ps_hybrid_analysis.proofs.filter.convolved.Statement.{statement}
 use Rattle.ps_hybrid_analysis.proofs.filter.convolved.Tie as tie
 
@@ -25,7 +25,7 @@ abbrev μ-loop : tie.MeasureT-loop
 
 loop-holds : tie.Need-loop-holds Inv-loop μ-loop
 unfolding convolved
-loop-holds c = record { within = omega arith; is = by-parts none none }
+loop-holds c = record { within = omega arith; is = by-parts zero-is zero-is }
 
 loop-again : tie.Need-loop-again Inv-loop μ-loop
 unfolding convolved

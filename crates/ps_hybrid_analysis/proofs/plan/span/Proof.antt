@@ -4,7 +4,7 @@ use Prim.Native.Nat.{_≤_}
 use borrow.Author.Needs.{needs}
 use native.Mathlib.Omega.{arith}
 use Rattle.layout.specs.declared.Layout.the-variants.{Bands20, Bands34}
-use Rattle.ps_hybrid_analysis.proofs.Spans.{span-past}
+use Rattle.standard.proofs.Spans.{spans}
 use Rattle.ps_hybrid_analysis.proofs.plan.span.Statement.{statement}
 use Rattle.ps_hybrid_analysis.proofs.plan.span.Tie as tie
 
@@ -12,13 +12,13 @@ past-20 : tie.Need-returns-4
 past-20 c =
     let r = c .match2 .rest in
     let past : 3 ≤ c .before .before .before .args .p = omega (arith, r .1, r .0 .1, r .0 .0 .1) in
-    rw (c .before .enum-told .given .1) (sym (span-past Bands20 _ past))
+    rw (c .before .enum-told .given .1) (sym (spans Bands20 _ .last past))
 
 past-34 : tie.Need-returns-10
 past-34 c =
     let r = c .match3 .rest in
     let past : 5 ≤ c .before .before .before .args .p = omega (arith, r .1, r .0 .1, r .0 .0 .1, r .0 .0 .0 .1, r .0 .0 .0 .0 .1) in
-    rw (c .before .enum-told2 .given .1) (sym (span-past Bands34 _ past))
+    rw (c .before .enum-told2 .given .1) (sym (spans Bands34 _ .last past))
 
 pub span-spec : {M : Type 1} → statement M
 span-spec =

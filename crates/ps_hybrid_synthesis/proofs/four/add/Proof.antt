@@ -6,7 +6,7 @@ use borrow.Author.Needs.{needs}
 use lib.ListN.{length-set}
 use Rattle.planar.specs.Cells.{cell}
 use Rattle.ps_hybrid_synthesis.specs.Column.{added}
-use Rattle.ps_hybrid_synthesis.specs.Lanes.{on}
+use Rattle.planar.specs.Lanes.{on}
 use Rattle.ps_hybrid_synthesis.specs.Loops.{fourSummed}
 use Rattle.ps_hybrid_synthesis.proofs.Columns.{Column, column-none, column-ahead, column-more, column-all}
 use Rattle.ps_hybrid_synthesis.proofs.Fours.{sumFrom, sum-from}

@@ -5,11 +5,11 @@ use borrow.Author.Needs.{needs}
 use lib.ListN.{length-set}
 use Rattle.standard.specs.Numbers.{nought}
 use Rattle.ps_hybrid_synthesis.specs.Column.{started}
-use Rattle.ps_hybrid_synthesis.specs.Lanes.{on}
+use Rattle.planar.specs.Lanes.{on}
 use Rattle.ps_hybrid_synthesis.specs.Loops.{fourSummed}
 use Rattle.ps_hybrid_synthesis.proofs.Columns.{Column, column-none, column-more, column-all}
 use Rattle.ps_hybrid_synthesis.proofs.Fours.{sumFrom, sum-from}
-use Rattle.ps_hybrid_synthesis.proofs.Literals.{none}
+use Rattle.standard.proofs.Literals.{zero-is}
 use Rattle.ps_hybrid_synthesis.proofs.four.start.Statement.{statement}
 use Rattle.ps_hybrid_synthesis.proofs.four.start.Tie as tie
 
@@ -31,7 +31,7 @@ loop-again c =
     let s = l .before in
     let a = s .args in (
       omega arith,
-      rw none
+      rw zero-is
           (column-more (l .loop .inv .1) (s .pre .inside) (sumFrom (a .runs .now) (l .loop .n) nought) (sum-from (a .runs .now) (l .loop .n) nought)
           (omega (arith, s .pre .long))),
     )

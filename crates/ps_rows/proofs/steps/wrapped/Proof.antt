@@ -47,12 +47,4 @@ from-zero c =
 pub wrapped-spec : {M : Type 1} → statement M
 wrapped-spec =
     tie.close
-    (tie.spec
-    sub-below
-    cast-below
-    (λ c. search needs)
-    (λ c. search needs)
-    cast-above
-    (λ c. search needs)
-    below-zero
-    from-zero)
+    (tie.spec sub-below cast-below (λ c. search needs) (λ c. search needs) cast-above (λ c. search needs) below-zero from-zero)

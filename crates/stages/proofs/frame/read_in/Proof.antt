@@ -1,4 +1,4 @@
--- `stages::frame::read_in` is safe: the line that is lent has as many characters as the head says, at most 864. Assumes nothing.
+-- `stages::frame::read_in` is safe: the line that is lent has as many characters as the head says, at most those of the longest line. Assumes nothing.
 use borrow.Author.Needs.{needs}
 use mathlib.Core.Path.{sym}
 use lib.Seq.{length-take-le}

@@ -1,8 +1,0 @@
--- A list in a fixed number of places.
-use mathlib.Core.List.{List, _++_}
-use Prim.Native.Nat.{ℕ}
-use lib.ListN.{take, replicate}
-
--- the n places that hold a list: z after it
-abbrev pub held : {A : Type 0} → ℕ → A → List A → List A
-held n z l = take n (l ++ replicate n z)

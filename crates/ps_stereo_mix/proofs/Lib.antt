@@ -1,2 +1,0 @@
-pub mod Overwrites
-pub mod Taken
