@@ -104,7 +104,7 @@ pub fn places(h: Header) -> Places
     }
 }
 
-// Of bytes 0 to 3.
+// The first of bytes 0 to 3 that is out of range.
 pub fn first_bad_head(bytes: &[u8; limits::BYTES]) -> Found
     ensures { λ r. ⌜ r ≡ found (now (bytes .entry)) headChecks ⌝ }
 {
@@ -147,7 +147,7 @@ fn first_over(bytes: &[u8], place: usize, apart: usize, count: usize, most: u8) 
     Found::Nothing
 }
 
-// Of the time bytes of a kind.
+// The first time byte of a kind that is out of range.
 fn first_bad_time(envelopes: u8, kind: Block, bytes: &[u8]) -> Found
     requires { ⌜ (kind .place ≤ 65536) × (kind .count ≤ 34) ⌝ }
     ensures { λ r. ⌜ r ≡ found (now (bytes .entry)) (timeChecks envelopes kind) ⌝ }
@@ -161,7 +161,7 @@ fn first_bad_time(envelopes: u8, kind: Block, bytes: &[u8]) -> Found
     )
 }
 
-// Of the borders, then of the time bytes, kind after kind.
+// The first byte behind those that is out of range: borders, then time bytes, kind after kind.
 pub fn first_bad_field(h: Header, at: Places, bytes: &[u8; limits::BYTES]) -> Found
     requires { ⌜ at ≡ placesOf h ⌝ }
     ensures { λ r. ⌜ r ≡ found (now (bytes .entry)) (bodyChecks h) ⌝ }

@@ -9,8 +9,8 @@ use libc::STDOUT_FILENO;
 use ps_data::PsIndices;
 use ps_data::PsLines;
 
-// What is carried from line to line: what the lines so far have left, the number of the last line, how many characters the line that has begun has had, and whether all
-// was written so far.
+// What is carried from line to line: what the lines so far have left, the number of the last line, how many characters the line that has begun has had,
+// and whether all was written so far.
 struct Listing {
     lines: PsLines,
     number: u64,
