@@ -32,7 +32,7 @@ extern "C" {
 #define LEFASUMU_VERSION "0.1.0"
 
 /* How many doubles the memory of a decoder has, for a static array. lefasumu_memory() says the same. */
-#define LEFASUMU_MEMORY 2372
+#define LEFASUMU_MEMORY 2429
 
 /* Frame done, or memory started. */
 #define LEFASUMU_DONE 0u

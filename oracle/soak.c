@@ -15,8 +15,8 @@
 #include <unistd.h>
 #include <valgrind/memcheck.h>
 
-/* Numbers of the memory and of its head, the longest line that is read, the most that a record may ask for, and bytes of a room: whole pages of any usual size. */
-enum { MEMORY = 2372, HEAD = 4, DIGITS = 864, LINE = 2048, INPUT = 5632, SIDE = 4352, ROW = 128, NUMBER = sizeof(double), ROOM = 65536 };
+/* Numbers of the memory and of its head (layout, cued, slots, turn, configured), the turn's place in it, the longest line that is read, the most that a record may ask for, and bytes of a room: whole pages of any usual size. */
+enum { MEMORY = 2429, HEAD = 5, TURN = 3, DIGITS = 864, LINE = 2048, INPUT = 5632, SIDE = 4352, ROW = 128, NUMBER = sizeof(double), ROOM = 65536 };
 enum part { OF_MEMORY, OF_LINE, OF_INPUT, OF_LEFT, OF_RIGHT, PARTS };
 static const char *const names[PARTS] = {"memory", "line", "input", "left", "right"};
 
@@ -245,13 +245,14 @@ static uint64_t hostile_bits(struct soak *s, uint64_t own) {
     return sorts[below(s, 6)];
 }
 
-/* Memory that no call has left. With the run's own head it has the run's slots, and the frame is played over such numbers. */
+/* Memory that no call has left. With the run's own head but for the turn it has the run's slots, and the frame is played over such numbers. */
 static void hostile_memory(struct soak *s, const struct record *r) {
     uint64_t memory[MEMORY];
     size_t kept = below(s, 2) * HEAD;
     memcpy(memory, s->memory, sizeof memory);
-    for (size_t i = kept; i < MEMORY; i++)
-        memory[i] = hostile_bits(s, memory[i]);
+    for (size_t i = 0; i < MEMORY; i++)
+        if (i >= kept || i == TURN)
+            memory[i] = hostile_bits(s, memory[i]);
     name_call(s, kept > 0 ? ", hostile memory after the head" : ", hostile memory");
     uint32_t streamed = r->head.answer, answer = play_hostile(s, r, (struct call){memory, r->line, MEMORY, r->head.line, INPUT});
     /* Answers 2 to 4 are the line's alone, and the others look at nothing of the memory but its head. */

@@ -1,10 +1,10 @@
 -- What holds of a layout's numbers, by the two layouts. Assumes nothing.
 use mathlib.Core.Path.{_≡_, refl}
-use Prim.Native.Nat.{_+_, _≤_, _<_}
+use Prim.Native.Nat.{_+_, _*_, _≤_, _<_}
 use native.Mathlib.Omega.{arith}
 use Rattle.layout.specs.declared.Layout.{Layout}
 use Rattle.layout.specs.declared.Layout.the-variants.{Bands20, Bands34}
-use Rattle.layout.specs.Numbers.{bandsOf, channelsOf, splitOf, unsplitFromOf, allPassOf, shortDelayOf}
+use Rattle.layout.specs.Numbers.{bandsOf, channelsOf, splitOf, unsplitFromOf, allPassOf, shortDelayOf, groupsOf}
 
 pub record Bounds (l : Layout) : Type 0 where
   -- how many there are at most
@@ -12,6 +12,8 @@ pub record Bounds (l : Layout) : Type 0 where
   pub channels : channelsOf l ≤ 91
   pub split : splitOf l ≤ 5
   pub all-pass : allPassOf l ≤ 50
+  pub groups : groupsOf l ≤ 13
+  pub grouped : allPassOf l ≤ 4 * groupsOf l
   -- the channels in order: those of the split bands, then one for each QMF band, of which 23 and above are delays, 12 of 14 slots and 29 of one
   pub some-split : 0 < splitOf l
   pub more : splitOf l ≤ unsplitFromOf l
@@ -27,6 +29,8 @@ bounds Bands20 =
       channels = omega arith;
       split = omega arith;
       all-pass = omega arith;
+      groups = omega arith;
+      grouped = omega arith;
       some-split = omega arith;
       more = omega arith;
       passed = omega arith;
@@ -40,6 +44,8 @@ bounds Bands34 =
       channels = omega arith;
       split = omega arith;
       all-pass = omega arith;
+      groups = omega arith;
+      grouped = omega arith;
       some-split = omega arith;
       more = omega arith;
       passed = omega arith;

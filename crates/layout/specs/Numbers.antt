@@ -1,5 +1,9 @@
 -- The numbers of the two layouts: §8.6.4.3 for the split bands, §8.6.4.5.1 for the others, Annex 8.A.3 for the reset. Assumes nothing.
 use Prim.Native.Nat.{ℕ, _+_, min}
+use mathlib.Core.Bool.{cond}
+use lib.Dec.{ltb}
+use Rattle.layout.specs.declared.Kind.{Kind}
+use Rattle.layout.specs.declared.Kind.the-variants.{AllPass, Long, Short}
 use Rattle.layout.specs.declared.Layout.{Layout}
 use Rattle.layout.specs.declared.Layout.the-variants.{Bands20, Bands34}
 
@@ -32,6 +36,15 @@ allPassOf Bands34 = 50
 abbrev pub shortDelayOf : Layout → ℕ
 shortDelayOf Bands20 = 42
 shortDelayOf Bands34 = 62
+
+-- groups of four all-pass channels
+abbrev pub groupsOf : Layout → ℕ
+groupsOf Bands20 = 8
+groupsOf Bands34 = 13
+
+-- how channel k is de-correlated: the first ones by an all-pass chain, those after them by a delay of 14 slots, the last ones by one of one slot
+abbrev pub kindOf : Layout → ℕ → Kind
+kindOf l k = cond (ltb k (allPassOf l)) AllPass (cond (ltb k (shortDelayOf l)) Long Short)
 
 -- DECAY_CUTOFF
 abbrev pub decayCutoffOf : Layout → ℕ

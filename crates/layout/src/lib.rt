@@ -1,7 +1,7 @@
 // The two layouts of §8.6.4: 20 stereo bands over 71 hybrid channels, 34 over 91. A layout's numbers belong to its type.
 ghost use mathlib.Core.Path.{_≡_};
 ghost use Prim.Native.Nat.{_≤_};
-ghost use Rattle.layout.specs.Numbers.{bandsOf, channelsOf, splitOf, unsplitFromOf, allPassOf, shortDelayOf, decayCutoffOf, edgeShiftOf, resetFromOf};
+ghost use Rattle.layout.specs.Numbers.{bandsOf, channelsOf, splitOf, unsplitFromOf, allPassOf, shortDelayOf, groupsOf, kindOf, decayCutoffOf, edgeShiftOf, resetFromOf};
 
 pub struct Twenty;
 
@@ -17,6 +17,8 @@ impl Twenty {
     pub const ALL_PASS: usize = 30;
 
     pub const SHORT_DELAY: usize = 42;
+
+    pub const GROUPS: usize = 8;
 
     pub const DECAY_CUTOFF: usize = 10;
 
@@ -38,6 +40,8 @@ impl ThirtyFour {
 
     pub const SHORT_DELAY: usize = 62;
 
+    pub const GROUPS: usize = 13;
+
     pub const DECAY_CUTOFF: usize = 32;
 
     pub const EDGE_SHIFT: usize = 27;
@@ -46,6 +50,13 @@ impl ThirtyFour {
 pub enum Layout {
     Bands20,
     Bands34,
+}
+
+// How a channel is de-correlated: by an all-pass chain, by a delay of 14 slots, or by one of one slot.
+pub enum Kind {
+    AllPass,
+    Long,
+    Short,
 }
 
 impl Layout {
@@ -106,6 +117,34 @@ impl Layout {
         match self {
             Layout::Bands20 => Twenty::SHORT_DELAY,
             Layout::Bands34 => ThirtyFour::SHORT_DELAY,
+        }
+    }
+
+    // Groups of four all-pass channels; the last group's last lanes may have none.
+    pub fn groups(self) -> usize
+        ensures { λ r. ⌜ r ≡ groupsOf self ⌝ }
+    {
+        match self {
+            Layout::Bands20 => Twenty::GROUPS,
+            Layout::Bands34 => ThirtyFour::GROUPS,
+        }
+    }
+
+    // The kind of channel k.
+    pub fn kind(self, k: usize) -> Kind
+        ensures { λ r. ⌜ r ≡ kindOf self k ⌝ }
+    {
+        match self {
+            Layout::Bands20 => match k {
+                0..=29 => Kind::AllPass,
+                30..=41 => Kind::Long,
+                _ => Kind::Short,
+            },
+            Layout::Bands34 => match k {
+                0..=49 => Kind::AllPass,
+                50..=61 => Kind::Long,
+                _ => Kind::Short,
+            },
         }
     }
 

@@ -68,7 +68,7 @@ pub extern "C" fn lefasumu_frame(
         return told(Answer::Buffers);
     }
     let mut history = [0.0; 60];
-    let mut delays = [0.0; 1400];
+    let mut delays = [0.0; 1456];
     let mut long = [0.0; 336];
     let mut short = [0.0; 58];
     let mut detectors = [0.0; 102];

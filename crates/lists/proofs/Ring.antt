@@ -2,7 +2,7 @@
 use Prim.Native.Nat.{ℕ, zero, suc, _+_, _-_, _%_, _≤_, _<_}
 use native.Mathlib.Omega.{arith}
 use native.Mathlib.Numerals.{add-one}
-use native.Mathlib.Nat.{mod-lt, mod-eq-of-lt, mod-self, suc-mod, eq-or-lt-of-le}
+use native.Mathlib.Nat.{mod-lt, mod-eq-of-lt, mod-self, mod-add-mod, mod-eq-sub-mod, suc-mod, eq-or-lt-of-le}
 use mathlib.Core.Path.{_≡_, sym, ap, _∙_, subst}
 use mathlib.Core.Logic.{_⊎_, inl, inr, _≢_}
 use mathlib.Core.Bool.{Bool, true, false, not, cond}
@@ -12,7 +12,7 @@ use lib.ListN.{length, getD, set}
 use lib.Seq.{getD-set-same, getD-set-other}
 use borrow.Author.Tests.{eq-eqb, ne-eqb}
 use Rattle.lists.specs.Rows.{tabulate}
-use Rattle.lists.specs.Ring.{back, Ring, turned, Queue}
+use Rattle.lists.specs.Ring.{back, Ring, turned, age, Queue}
 use Rattle.lists.proofs.Maps.{tabulate-at}
 
 -- the entry that was written last but j
@@ -38,6 +38,36 @@ turned-counter d t h = go (eq-or-lt-of-le (mod-lt t h))
     go : (suc (t % d) ≡ d) ⊎ (suc (t % d) < d) → turned d (t % d) ≡ (t + 1) % d
     go (inl e) = turned-last d (t % d) (omega arith) ∙ sym (next ∙ ap (λ (n : ℕ). n % d) e ∙ mod-self d)
     go (inr l) = turned-next d (t % d) (λ (e : t % d + 1 ≡ d). omega arith) ∙ add-one (t % d) ∙ sym (next ∙ mod-eq-of-lt l)
+
+-- ---- ages
+module _ (d t j : ℕ) where
+  age-newer : j < t % d → t % d < d → age d t j ≡ t % d - suc j
+  age-newer u l =
+      let e : t % d + (d - suc j) - d ≡ t % d - suc j = omega arith in
+      sym (mod-add-mod t d (d - suc j)) ∙ mod-eq-sub-mod (omega arith) ∙ ap (λ (n : ℕ). n % d) e ∙ mod-eq-of-lt (omega arith)
+
+  age-older : t % d ≤ j → j < d → age d t j ≡ t % d + d - suc j
+  age-older u l =
+      let e : t % d + (d - suc j) ≡ t % d + d - suc j = omega arith in
+      sym (mod-add-mod t d (d - suc j)) ∙ ap (λ (n : ℕ). n % d) e ∙ mod-eq-of-lt (omega arith)
+
+pub age-small : (d t j : ℕ) → 0 < d → age d t j < d
+age-small d t j h = mod-lt (t + (d - suc j)) h
+
+-- an entry's age leads back to its cell
+pub age-back : (d t j : ℕ) → j < d → age d t (age d t j) ≡ j
+age-back d t j l = go (ltb j (t % d)) (ltb→lt j (t % d)) (nltb→le j (t % d))
+  where
+    inside : t % d < d
+    inside = mod-lt t (omega arith)
+
+    go : (b : Bool) → (T b → j < t % d) → (T (not b) → t % d ≤ j) → age d t (age d t j) ≡ j
+    go true a b =
+        let u = a tt in
+        rw (age-newer d t j u inside) (age-newer d t (t % d - suc j) (omega arith) inside ∙ omega arith)
+    go false a b =
+        let u = b tt in
+        rw (age-older d t j u l) (age-older d t (t % d + d - suc j) (omega arith) (omega arith) ∙ omega arith)
 
 module _ {A : Type 0} where
   -- ---- what a ring gives, and what it is at rest
@@ -142,6 +172,25 @@ module _ {A : Type 0} where
       go : (t : Bool) → (T t → i < at) → (T (not t) → at ≤ i) → cell i ≡ new i
       go true a b = r .newer i (a tt) ∙ sym (s .newer i (a tt))
       go false a b = r .older i (b tt) l ∙ sym (s .older i (b tt) l)
+
+  -- ---- the cells by their ages
+  pub ring-cell : {z : A} {d : ℕ} {cell : ℕ → A} {h : List A} (t : ℕ) → Ring z d (t % d) cell h → (j : ℕ) → j < d → cell j ≡ back z (age d t j) h
+  ring-cell {z} {d} {cell} {h} t r j l = go (ltb j (t % d)) (ltb→lt j (t % d)) (nltb→le j (t % d))
+    where
+      go : (b : Bool) → (T b → j < t % d) → (T (not b) → t % d ≤ j) → cell j ≡ back z (age d t j) h
+      go true a b = r .newer j (a tt) ∙ ap (λ (n : ℕ). back z n h) (sym (age-newer d t j (a tt) (r .inside)))
+      go false a b = r .older j (b tt) l ∙ ap (λ (n : ℕ). back z n h) (sym (age-older d t j (b tt) l))
+
+  pub ring-of : (z : A) (d t : ℕ) (cell : ℕ → A) (h : List A) → 0 < d → ((j : ℕ) → j < d → cell j ≡ back z (age d t j) h) → Ring z d (t % d) cell h
+  ring-of z d t cell h some is =
+      record {
+        inside = inside;
+        newer = λ i u. is i (omega (arith, inside)) ∙ ap (λ (n : ℕ). back z n h) (age-newer d t i u inside);
+        older = λ i u v. is i v ∙ ap (λ (n : ℕ). back z n h) (age-older d t i u v);
+      }
+    where
+      inside : t % d < d
+      inside = mod-lt t some
 
   -- ---- the queue: every cell moves by one
   pub queue-push : {z : A} {d : ℕ} {cell : ℕ → A} {h : List A} (new : ℕ → A) (x : A) → Queue z d cell h → new 0 ≡ x → ((i : ℕ) → suc i < d → new (suc i) ≡ cell i) → Queue z d new (x ∷ h)

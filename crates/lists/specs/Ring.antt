@@ -2,7 +2,7 @@
 use mathlib.Core.Path.{_≡_}
 use mathlib.Core.Bool.{cond}
 use mathlib.Core.List.{List}
-use Prim.Native.Nat.{ℕ, suc, _+_, _-_, _≤_, _<_}
+use Prim.Native.Nat.{ℕ, suc, _+_, _-_, _%_, _≤_, _<_}
 use lib.Dec.{eqb}
 use lib.ListN.{getD}
 
@@ -19,6 +19,10 @@ pub record Ring {A : Type 0} (z : A) (d at : ℕ) (cell : ℕ → A) (h : List A
 -- the position after a write
 unfoldable pub turned : ℕ → ℕ → ℕ
 turned d at = cond (eqb (suc at) d) 0 (suc at)
+
+-- the same by the number of slots so far: how many entries before the newest one that in cell j came; and where the one that came so many before stands
+abbrev pub age : ℕ → ℕ → ℕ → ℕ
+age d t j = (t + (d - suc j)) % d
 
 -- cells that move by one each slot: cell i is i entries back
 pub record Queue {A : Type 0} (z : A) (d : ℕ) (cell : ℕ → A) (h : List A) : Type 0 where

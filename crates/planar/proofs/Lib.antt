@@ -3,3 +3,4 @@ pub mod Pairs
 pub mod Window
 pub mod Rows
 pub mod Overwritten
+pub mod Rings

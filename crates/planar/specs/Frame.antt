@@ -1,4 +1,4 @@
--- A frame in flat lists: the hybrid samples, for each all-pass channel a run of 32 slots; a band's coefficients, four runs of 32 slots; what the
+-- A frame in flat lists: the hybrid samples, for each channel of a split band a run of 32 slots; a band's coefficients, four runs of 32 slots; what the
 -- bands keep; and QMF slots, rows of 64 complex numbers side by side. Assumes nothing.
 use Prim.Native.Nat.{ℕ, _+_, _-_, _*_, _/_, _%_}
 use mathlib.Core.Bool.{cond}
@@ -9,7 +9,7 @@ use lib.Ieee.{Float}
 use lib.ListN.{getD}
 use Rattle.complex.specs.declared.Complex.{Complex}
 use Rattle.layout.specs.declared.Layout.{Layout}
-use Rattle.layout.specs.Numbers.{allPassOf, splitOf, unsplitFromOf}
+use Rattle.layout.specs.Numbers.{splitOf, unsplitFromOf}
 use Rattle.lists.specs.Part.{part}
 use Rattle.lists.specs.Rows.{tabulate}
 use Rattle.standard.specs.declared.Matrix.{Matrix}
@@ -52,6 +52,6 @@ qmfRows slots y = tabulate (λ i. cond (eqb (i % 2) 0) (y (i / 128) (i % 128 / 2
 abbrev pub qmfBandOf : Layout → ℕ → ℕ
 qmfBandOf l k = k + splitOf l - unsplitFromOf l
 
--- slot n of channel k, whichever its kind: a channel above the all-pass ones is a QMF band of the input
+-- slot n of channel k, of a split band or not: an unsplit one is a QMF band of the input
 abbrev pub sampleIn : Layout → List Float → List Float → ℕ → ℕ → Complex
-sampleIn l samples input n k = cond (ltb k (allPassOf l)) (sampleAt samples n k) (qmfAt input n (qmfBandOf l k))
+sampleIn l samples input n k = cond (ltb k (unsplitFromOf l)) (sampleAt samples n k) (qmfAt input n (qmfBandOf l k))

@@ -2,3 +2,4 @@ pub mod Cells
 pub mod Window
 pub mod Frame
 pub mod Lanes
+pub mod Rings

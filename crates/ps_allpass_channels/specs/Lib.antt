@@ -1,6 +1,5 @@
 pub mod Channels
-pub mod Tape
-pub mod Lanes
-pub mod Sides
-pub mod Turns
-pub mod Sofar
+pub mod Desks
+pub mod DeskNumbers
+pub mod Leaving
+pub mod Slots

@@ -1,248 +1,211 @@
-// The all-pass channels of a frame (source documents 000 to 002): each is de-correlated, mixed, and added to its QMF band's column of left and right,
-// four channels at a time.
-mod chains;
-mod mixing;
-mod stretch;
-mod tape;
-mod turn;
+// The all-pass channels of a frame (source documents 000 to 002), slot by slot: from the samples of the split bands and the input's row through their
+// chains into the rows of left and right.
+mod desks;
+mod rows;
 
 use layout::Layout;
+use ps_stereo_slots::Timing;
 ghost use mathlib.Core.Path.{_≡_};
-ghost use Prim.Native.Nat.{_*_, _≤_};
+ghost use Prim.Native.Nat.{_+_, _*_, _<_, _≤_};
 ghost use lib.ListN.{length};
-ghost use Rattle.layout.specs.Numbers.{allPassOf};
-ghost use Rattle.standard.specs.Channel.{rotationsOf};
+ghost use Rattle.limits.specs.Limits as limits;
+ghost use Rattle.ps_map.specs.Bands.{parameterMap};
 ghost use Rattle.ps_allpass_channels.specs.Channels.{leftAfter, rightAfter, delaysAfter};
-ghost use Rattle.ps_allpass_channels.specs.Sides.{Regions};
-ghost use Rattle.ps_allpass_channels.specs.Sofar.{Turned, Sofar};
-ghost use Rattle.ps_allpass_channels.specs.Turns.{Lent, matrixBy, matrixOf};
+ghost use Rattle.ps_allpass_channels.specs.Desks.{SameChains};
+ghost use Rattle.ps_allpass_channels.specs.Slots.{Passed, Begun, Roomy, Ran, Freed, Framed};
 
-// The channels from `first` to before `end` in rising order, four at a time, and then those that are left.
-fn each(
+// What is said of a slot: that it is slot n of the frame, that `turn` slots came before it, and how far it lies on its way, or that it is held.
+struct Moment {
     layout: Layout,
-    first: usize,
-    end: usize,
+    n: usize,
+    turn: usize,
+    t: f64,
+    held: bool,
+}
+
+// One slot; its region's coefficients are on the desks.
+fn slot(
+    moment: Moment,
     map: &[u8; 91],
-    table: &[i64],
-    regions: &[u8; 32],
-    count: usize,
-    fractions: &[f64; limits::FRACTIONS],
-    samples: &[f64; 3200],
-    gains: &[f64; 1088],
-    rows: &[f64; limits::MATRICES],
+    samples: &[f64],
+    gains: &[f64],
+    input: &[f64],
+    desks: &mut [f64],
     delays: &mut [f64],
-    slots: usize,
-    constants: &mut [f64; 44],
-    ways: &mut [f64; mixing::WAYS],
-    ducks: &mut [f64; 128],
-    tape: &mut [f64; 1136],
-    lefts: &mut [f64; 256],
-    rights: &mut [f64; 256],
     left: &mut [f64],
     right: &mut [f64],
 )
-    requires { ⌜ (first ≤ end) × (end ≤ allPassOf layout) ⌝ }
-    requires { ⌜ Lent layout (now map) (now table) count slots × (Regions count (now regions) × (length (now delays) ≡ 1400)) ⌝ }
-    ensures { λ _. ⌜ Turned layout (matrixBy (now (regions .entry)) (now (fractions .entry)) count (now (rows .entry))) (now (samples .entry)) (now (gains .entry)) slots
-        first (now (delays .entry)) (now (left .entry)) (now (right .entry)) end (now (delays .exit)) (now (left .exit)) (now (right .exit)) ⌝ }
+    requires { ⌜ (now map ≡ parameterMap (moment .layout)) × (moment .n < 32) × (128 * moment .n + 128 ≤ length (now input)) ⌝ }
+    requires { ⌜ (length (now samples) ≡ 2048) × (length (now gains) ≡ 1088) × (length (now desks) ≡ 1768) × (length (now delays) ≡ 1456) ⌝ }
+    requires { ⌜ (128 * moment .n + 128 ≤ length (now left)) × (128 * moment .n + 128 ≤ length (now right)) ⌝ }
+    ensures { λ _. ⌜ Passed (moment .layout) (now (samples .entry)) (now (gains .entry)) (now (input .entry)) (moment .n) (moment .turn) (moment .t) (moment .held) (now (desks .entry)) (now (delays .entry)) (now (left .entry)) (now (right .entry)) (now (desks .exit)) (now (delays .exit)) (now (left .exit)) (now (right .exit)) ⌝ }
 {
-    let mut k = first;
-    while k < end {
-        let lanes = limits::least(4, end - k);
-        turn::turn(
-            layout,
-            k,
-            lanes,
-            map,
-            table,
-            regions,
-            count,
-            fractions,
+    let layout = moment.layout;
+    let n = moment.n;
+    desks::enter(layout, map, samples, gains, input, n, desks);
+    ps_allpass_groups::groups(layout, delays, desks, moment.turn, moment.t, moment.held);
+    rows::leave(layout, desks, n, left, right);
+}
+
+// The coefficients of a region onto the desks, unless they are there. Behind the last border they are held.
+fn begin(
+    layout: Layout,
+    map: &[u8; 91],
+    rows: &[f64],
+    count: usize,
+    region: usize,
+    old: usize,
+    desks: &mut [f64],
+)
+    requires { ⌜ (now map ≡ parameterMap layout) × (length (now rows) ≡ limits.matrices) × (length (now desks) ≡ 1768) ⌝ }
+    requires { ⌜ (region ≤ count) × (count ≤ limits.envelopes) × Begun layout (now rows) count old (now desks) ⌝ }
+    ensures ways { λ _. ⌜ Begun layout (now (rows .entry)) count region (now (desks .exit)) ⌝ }
+    ensures chains { λ _. ⌜ SameChains (now (desks .entry)) (now (desks .exit)) ⌝ }
+{
+    if region == old {
+        return;
+    }
+    desks::ways(
+        layout,
+        map,
+        rows,
+        region,
+        limits::least(region + 1, count),
+        desks,
+    );
+}
+
+// The slots of a frame, whose turn is below 420. The constants are on the desks.
+fn run(
+    layout: Layout,
+    timing: Timing,
+    samples: &[f64],
+    gains: &[f64],
+    rows: &[f64],
+    input: &[f64],
+    desks: &mut [f64],
+    delays: &mut [f64],
+    left: &mut [f64],
+    right: &mut [f64],
+)
+    requires { ⌜ Roomy timing (now samples) (now gains) (now rows) (now input) (now delays) (now left) (now right) ⌝ }
+    requires { ⌜ length (now desks) ≡ 1768 ⌝ }
+    ensures { λ _. ⌜ Ran layout timing (now (samples .entry)) (now (gains .entry)) (now (rows .entry)) (now (input .entry)) (now (desks .entry)) (now (delays .entry)) (now (left .entry)) (now (right .entry)) (now (delays .exit)) (now (left .exit)) (now (right .exit)) ⌝ }
+{
+    let map = ps_map::parameter_map(layout);
+    let count = limits::least(timing.count, limits::ENVELOPES);
+    // No region yet.
+    let mut region = limits::BORDERS;
+    for n in 0..timing.slots {
+        let next = ps_stereo_slots::region_in(timing, n);
+        begin(layout, &map, rows, count, next, region, desks);
+        region = next;
+        let moment = Moment {
+            layout: layout,
+            n: n,
+            turn: timing.turn + n,
+            t: ps_stereo_slots::share_in(timing, next, n),
+            held: next == count,
+        };
+        slot(
+            moment,
+            &map,
             samples,
             gains,
-            rows,
+            input,
+            desks,
             delays,
-            slots,
-            constants,
-            ways,
-            ducks,
-            tape,
-            lefts,
-            rights,
             left,
             right,
         );
-        k += lanes;
     }
 }
 
-// What every turn takes is made once. Fours begin anew with the unsplit channels, so that each of theirs is four columns side by side.
+// The lanes of the last group that have no channel: what went through them is nothing.
+fn silence_free(layout: Layout, delays: &mut [f64])
+    requires { ⌜ length (now delays) ≡ 1456 ⌝ }
+    ensures { λ _. ⌜ Freed layout (now (delays .entry)) (now (delays .exit)) ⌝ }
+{
+    let at = 112 * (layout.all_pass() / 4);
+    ps_decorr_allpass::silence(&mut delays[at..at + 112], layout.all_pass() % 4);
+}
+
+// A frame with room in every list, of at most 32 slots and with a turn below 420.
 fn frame(
     layout: Layout,
+    timing: Timing,
     table: &[i64],
-    borders: [u8; limits::ENVELOPES],
-    count: usize,
-    samples: &[f64; 3200],
-    gains: &[f64; 1088],
-    rows: &[f64; limits::MATRICES],
+    samples: &[f64],
+    gains: &[f64],
+    rows: &[f64],
+    input: &[f64],
     delays: &mut [f64],
-    slots: usize,
     left: &mut [f64],
     right: &mut [f64],
 )
-    requires { ⌜ (now table ≡ rotationsOf layout) × (length (now delays) ≡ 1400) ⌝ }
-    requires { ⌜ (slots ≤ 32) × ((length (now left) ≡ 128 * slots) × (length (now right) ≡ 128 * slots)) ⌝ }
-    ensures { λ _. ⌜ Sofar layout (matrixOf borders count (now (rows .entry))) (now (samples .entry)) (now (gains .entry)) slots
-        (now (delays .entry)) (now (left .entry)) (now (right .entry)) (allPassOf layout) (now (delays .exit)) (now (left .exit)) (now (right .exit)) ⌝ }
+    requires { ⌜ Roomy timing (now samples) (now gains) (now rows) (now input) (now delays) (now left) (now right) ⌝ }
+    ensures { λ _. ⌜ Framed layout timing (now (table .entry)) (now (samples .entry)) (now (gains .entry)) (now (rows .entry)) (now (input .entry)) (now (delays .entry)) (now (left .entry)) (now (right .entry)) (now (delays .exit)) (now (left .exit)) (now (right .exit)) ⌝ }
 {
-    let map = ps_map::parameter_map(layout);
-    let mut regions = [0u8; 32];
-    let mut fractions = [0.0f64; limits::FRACTIONS];
-    let mut constants = [0.0f64; 44];
-    let mut ways = [0.0f64; mixing::WAYS];
-    let mut ducks = [0.0f64; 128];
-    let mut tape = [0.0f64; 1136];
-    let mut lefts = [0.0f64; 256];
-    let mut rights = [0.0f64; 256];
-    ps_stereo_slots::regions(borders, count, &mut regions);
-    ps_stereo_slots::fractions(borders, count, &mut fractions);
-    let envelopes = limits::least(count, limits::ENVELOPES);
-    let unsplit = layout.unsplit_from();
-    each(
+    let mut desks = [0.0f64; 1768];
+    desks::lay(layout, table, &mut desks);
+    run(
         layout,
-        0,
-        unsplit,
-        &map,
-        table,
-        &regions,
-        envelopes,
-        &fractions,
+        timing,
         samples,
         gains,
         rows,
+        input,
+        &mut desks,
         delays,
-        slots,
-        &mut constants,
-        &mut ways,
-        &mut ducks,
-        &mut tape,
-        &mut lefts,
-        &mut rights,
         left,
         right,
     );
-    each(
-        layout,
-        unsplit,
-        layout.all_pass(),
-        &map,
-        table,
-        &regions,
-        envelopes,
-        &fractions,
-        samples,
-        gains,
-        rows,
-        delays,
-        slots,
-        &mut constants,
-        &mut ways,
-        &mut ducks,
-        &mut tape,
-        &mut lefts,
-        &mut rights,
-        left,
-        right,
-    );
+    silence_free(layout, delays);
 }
 
-// With the layout's table of rotations.
-fn rotated(
-    layout: Layout,
-    borders: [u8; limits::ENVELOPES],
-    count: usize,
-    samples: &[f64; 3200],
-    gains: &[f64; 1088],
-    rows: &[f64; limits::MATRICES],
-    delays: &mut [f64],
-    slots: usize,
-    left: &mut [f64],
-    right: &mut [f64],
-)
-    requires { ⌜ (slots ≤ 32) × ((length (now left) ≡ 128 * slots) × (length (now right) ≡ 128 * slots)) ⌝ }
-    requires { ⌜ length (now delays) ≡ 1400 ⌝ }
-    ensures { λ _. ⌜ Sofar layout (matrixOf borders count (now (rows .entry))) (now (samples .entry)) (now (gains .entry)) slots
-        (now (delays .entry)) (now (left .entry)) (now (right .entry)) (allPassOf layout) (now (delays .exit)) (now (left .exit)) (now (right .exit)) ⌝ }
-{
-    match layout {
-        Layout::Bands20 => {
-            let table = rotation_table::rotations_20();
-            frame(
-                layout,
-                &table,
-                borders,
-                count,
-                samples,
-                gains,
-                rows,
-                delays,
-                slots,
-                left,
-                right,
-            );
-        }
-        Layout::Bands34 => {
-            let table = rotation_table::rotations_34();
-            frame(
-                layout,
-                &table,
-                borders,
-                count,
-                samples,
-                gains,
-                rows,
-                delays,
-                slots,
-                left,
-                right,
-            );
-        }
-    }
-}
-
-// What a frame's channels have in common is lent: samples, ducking factors, the coefficients at the borders, and the memory of every chain.
+// What a frame's channels have in common is lent: rotations, samples, ducking factors, the coefficients at the borders, the input, and the delays.
 pub fn allpass_channels(
     layout: Layout,
-    borders: [u8; limits::ENVELOPES],
-    count: usize,
-    samples: &[f64; 3200],
+    timing: Timing,
+    table: &[i64],
+    samples: &[f64; 2048],
     gains: &[f64; 1088],
     rows: &[f64; limits::MATRICES],
-    delays: &mut [f64; 1400],
-    slots: usize,
+    input: &[f64],
+    delays: &mut [f64; 1456],
     left: &mut [f64],
     right: &mut [f64],
 )
-    ensures left { λ _. ⌜ now (left .exit) ≡ leftAfter layout borders count (now (samples .entry)) (now (gains .entry)) (now (rows .entry)) (now (delays .entry)) slots (now (left .entry)) (now (right .entry)) ⌝ }
-    ensures right { λ _. ⌜ now (right .exit) ≡ rightAfter layout borders count (now (samples .entry)) (now (gains .entry)) (now (rows .entry)) (now (delays .entry)) slots (now (left .entry)) (now (right .entry)) ⌝ }
-    ensures delays { λ _. ⌜ now (delays .exit) ≡ delaysAfter layout borders count (now (samples .entry)) (now (gains .entry)) (now (rows .entry)) (now (delays .entry)) slots (now (left .entry)) (now (right .entry)) ⌝ }
+    ensures left { λ _. ⌜ now (left .exit) ≡ leftAfter layout timing (now (table .entry)) (now (samples .entry)) (now (gains .entry)) (now (rows .entry)) (now (input .entry)) (now (delays .entry)) (now (left .entry)) (now (right .entry)) ⌝ }
+    ensures right { λ _. ⌜ now (right .exit) ≡ rightAfter layout timing (now (table .entry)) (now (samples .entry)) (now (gains .entry)) (now (rows .entry)) (now (input .entry)) (now (delays .entry)) (now (left .entry)) (now (right .entry)) ⌝ }
+    ensures delays { λ _. ⌜ now (delays .exit) ≡ delaysAfter layout timing (now (table .entry)) (now (samples .entry)) (now (gains .entry)) (now (rows .entry)) (now (input .entry)) (now (delays .entry)) (now (left .entry)) (now (right .entry)) ⌝ }
 {
-    let within = limits::least(slots, 32);
-    if left.len() != 128 * within {
+    let slots = limits::least(timing.slots, 32);
+    if left.len() != 128 * slots {
         return;
     }
-    if right.len() != 128 * within {
+    if right.len() != 128 * slots {
         return;
     }
-    rotated(
+    if input.len() < 128 * slots {
+        return;
+    }
+    let borders = timing.borders;
+    let within = Timing {
+        borders: borders,
+        count: timing.count,
+        slots: slots,
+        turn: timing.turn % 420,
+    };
+    frame(
         layout,
-        borders,
-        count,
+        within,
+        table,
         samples,
         gains,
         rows,
+        input,
         delays,
-        within,
         left,
         right,
     );

@@ -1,7 +1,6 @@
 -- The stages' results put together are the frame's: each stage by its own promise. Assumes nothing.
 use Prim.Native.Nat.{ℕ, min}
-use mathlib.Core.Path.{_≡_, _∙_}
-use mathlib.Core.Bool.{true}
+use mathlib.Core.Path.{_≡_}
 use mathlib.Core.List.{List}
 use lib.Ieee.{Float, binary64, ofBits}
 use lib.ListN.{replicate}
@@ -9,6 +8,7 @@ use Rattle.limits.specs.Limits as limits
 use Rattle.borders.specs.Borders.{slotsOf, bordersOf}
 use Rattle.calls.specs.Call.{modesOf}
 use Rattle.cue.specs.declared.Header.{Header}
+use Rattle.layout.specs.declared.Layout.{Layout}
 use Rattle.lists.specs.Padded.{padded}
 use Rattle.ps_allpass_channels.specs.Channels as chains
 use Rattle.ps_data.specs.declared.PsLines.{PsLines}
@@ -17,82 +17,88 @@ use Rattle.ps_decorr_transient.specs.Gains.{detectorsAfter, gainsAfter}
 use Rattle.ps_delay_channels.specs.Channels as delayed
 use Rattle.ps_hybrid_analysis.specs.Analysis.{historyAfter, samplesAfter}
 use Rattle.ps_state.specs.declared.PsDecoder.{PsDecoder}
+use Rattle.ps_state.specs.State.{turnAfter}
+use Rattle.standard.specs.Channel.{rotationsOf}
 use Rattle.standard.proofs.Literals.{zero-is}
 use Rattle.ps_stereo.specs.declared.PsStereo.{PsStereo}
 use Rattle.ps_stereo_borders.specs.Borders.{rowsAfter, stereoAfter}
+use Rattle.ps_stereo_slots.specs.declared.Timing.{Timing}
 use Rattle.ps_decoder.specs.Sound.{samplesOf, gainsOf, rowsOf, leftOf, rightOf, sounded}
+use Rattle.ps_decoder.specs.Staged.{Staged}
 
 -- an array of the code that starts with the literal 0.0
 abbrev blank : ℕ → List Float
 blank n = replicate n (ofBits binary64 0)
 
+-- the stages after the coefficients
+module _ (l : Layout) (timing : Timing) (rows input history delays long short detectors left right : List Float) where
+  -- what they gave in between
+  pub record Given (samples gains low-left low-right : List Float) : Type 0 where
+    pub slots-act : slotsOf (timing .slots) ≡ timing .slots
+    pub samples-are : samples ≡ samplesAfter l history input (slotsOf (timing .slots)) (blank 2048)
+    pub gains-are : gains ≡ gainsAfter l detectors samples input (min (timing .slots) 32) (blank 1088)
+    pub left-low : low-left ≡ chains.leftAfter l timing (rotationsOf l) samples gains rows input delays left right
+    pub right-low : low-right ≡ chains.rightAfter l timing (rotationsOf l) samples gains rows input delays left right
+
+  module _ {samples gains low-left low-right : List Float} (given : Given samples gains low-left low-right) where
+    pub staged : {new-history new-delays new-long new-short new-detectors new-left new-right : List Float}
+        → new-history ≡ historyAfter l history input (slotsOf (timing .slots))
+        → new-delays ≡ chains.delaysAfter l timing (rotationsOf l) samples gains rows input delays left right
+        → new-long ≡ delayed.longAfter l timing input gains rows long short low-left low-right
+        → new-short ≡ delayed.shortAfter l timing input gains rows long short low-left low-right
+        → new-detectors ≡ detectorsAfter l detectors samples input (min (timing .slots) 32)
+        → new-left ≡ delayed.leftAfter l timing input gains rows long short low-left low-right
+        → new-right ≡ delayed.rightAfter l timing input gains rows long short low-left low-right
+        → Staged l timing rows input history delays long short detectors left right new-history new-delays new-long new-short new-detectors new-left new-right
+    staged history-is delays-is long-is short-is detectors-is left-is right-is =
+        record {
+          history-is = rw (given .slots-act) at history-is;
+          delays-is = rw (given .gains-are, given .samples-are, given .slots-act, zero-is) at delays-is;
+          long-is = rw (given .left-low, given .right-low, given .gains-are, given .samples-are, given .slots-act, zero-is) at long-is;
+          short-is = rw (given .left-low, given .right-low, given .gains-are, given .samples-are, given .slots-act, zero-is) at short-is;
+          detectors-is = rw (given .samples-are, given .slots-act, zero-is) at detectors-is;
+          left-is = rw (given .left-low, given .right-low, given .gains-are, given .samples-are, given .slots-act, zero-is) at left-is;
+          right-is = rw (given .left-low, given .right-low, given .gains-are, given .samples-are, given .slots-act, zero-is) at right-is;
+        }
+
+-- the frame, from what the coefficients and the borders gave
 module _ (s : PsDecoder) (h : Header) (indices : PsIndices) (positions : List ℕ) (input left right : List Float) where
-  -- what the stages gave
-  pub record Given (slots : ℕ) (samples gains rows : List Float) (places : List ℕ) : Type 0 where
+  pub record Timed (slots : ℕ) (rows : List Float) (places : List ℕ) : Type 0 where
     pub slots-are : slots ≡ slotsOf (s .asked)
-    pub samples-are : samples ≡ samplesAfter (s .layout) (s .history) input (slotsOf (s .asked)) (blank 3200)
-    pub gains-are : gains ≡ gainsAfter (s .layout) (s .decorr .detectors) samples input (min slots 32) (blank 1088)
     pub rows-are : rows ≡ rowsAfter (s .layout) (modesOf h) (h .config) indices (s .stereo) (min (h .envelopes) limits.envelopes) (blank limits.matrices)
     pub places-are : places ≡ padded limits.envelopes 0 (bordersOf (slotsOf (s .asked)) (h .variable) (min (h .envelopes) limits.envelopes) positions)
 
-  module _ {slots : ℕ} {samples gains rows : List Float} {places : List ℕ} (given : Given slots samples gains rows places) where
-    samples-is : samples ≡ samplesOf s h indices positions input left right
-    unfolding samplesOf
-    samples-is = rw (← zero-is) (given .samples-are)
-
-    gains-is : gains ≡ gainsOf s h indices positions input left right
-    unfolding gainsOf
-    gains-is = rw (← zero-is, ← samples-is, ← given .slots-are) (given .gains-are)
+  module _ {slots : ℕ} {rows : List Float} {places : List ℕ} (timed : Timed slots rows places) where
+    abbrev times : Timing
+    times = record { borders = places; count = h .envelopes; slots = slots; turn = s .decorr .turn }
 
     rows-is : rows ≡ rowsOf s h indices positions input left right
     unfolding rowsOf
-    rows-is = rw (← zero-is) (given .rows-are)
+    rows-is = rw (← zero-is) (timed .rows-are)
 
-    -- both sides as the all-pass channels leave them
-    abbrev pub lowLeft : List Float
-    lowLeft = chains.leftAfter (s .layout) places (h .envelopes) samples gains rows (s .decorr .delays) slots left right
+    module _ {new-history new-delays new-long new-short new-detectors new-left new-right : List Float}
+        (after : Staged (s .layout) times rows input (s .history) (s .decorr .delays) (s .decorr .long) (s .decorr .short) (s .decorr .detectors) left right
+        new-history new-delays new-long new-short new-detectors new-left new-right) where
+      pub left-is : new-left ≡ leftOf s h indices positions input left right
+      unfolding leftOf gainsOf samplesOf
+      left-is = rw (timed .places-are, rows-is, timed .slots-are) at (after .left-is)
 
-    abbrev pub lowRight : List Float
-    lowRight = chains.rightAfter (s .layout) places (h .envelopes) samples gains rows (s .decorr .delays) slots left right
+      pub right-is : new-right ≡ rightOf s h indices positions input left right
+      unfolding rightOf gainsOf samplesOf
+      right-is = rw (timed .places-are, rows-is, timed .slots-are) at (after .right-is)
 
-    -- and as the plain delays leave them, over those
-    module _ (low-left low-right : List Float) (left-low : low-left ≡ lowLeft) (right-low : low-right ≡ lowRight) where
-      abbrev leftThen : List Float
-      leftThen = delayed.leftAfter (s .layout) places (h .envelopes) input gains rows (s .decorr .long) (s .decorr .short) slots low-left low-right
-
-      abbrev rightThen : List Float
-      rightThen = delayed.rightAfter (s .layout) places (h .envelopes) input gains rows (s .decorr .long) (s .decorr .short) slots low-left low-right
-
-      left-is : leftThen ≡ leftOf s h indices positions input left right
-      unfolding leftOf
-      left-is = rw (left-low, right-low, given .places-are, rows-is, gains-is, samples-is, given .slots-are)
-
-      right-is : rightThen ≡ rightOf s h indices positions input left right
-      unfolding rightOf
-      right-is = rw (left-low, right-low, given .places-are, rows-is, gains-is, samples-is, given .slots-are)
-
-      pub left-by : (new : List Float) → new ≡ leftThen → new ≡ leftOf s h indices positions input left right
-      left-by new is = is ∙ left-is
-
-      pub right-by : (new : List Float) → new ≡ rightThen → new ≡ rightOf s h indices positions input left right
-      right-by new is = is ∙ right-is
-
-      pub state-is : (lines : PsLines) (history delays long short detectors : List Float) (stereo : PsStereo)
-          → history ≡ historyAfter (s .layout) (s .history) input (slotsOf (s .asked))
-          → detectors ≡ detectorsAfter (s .layout) (s .decorr .detectors) samples input (min slots 32)
+      pub state-is : (lines : PsLines) (turn : ℕ) (stereo : PsStereo)
+          → turn ≡ turnAfter s (slotsOf (s .asked))
           → stereo ≡ stereoAfter (s .layout) (modesOf h) (h .config) indices (s .stereo) (min (h .envelopes) limits.envelopes)
-          → delays ≡ chains.delaysAfter (s .layout) places (h .envelopes) samples gains rows (s .decorr .delays) slots left right
-          → long ≡ delayed.longAfter (s .layout) places (h .envelopes) input gains rows (s .decorr .long) (s .decorr .short) slots low-left low-right
-          → short ≡ delayed.shortAfter (s .layout) places (h .envelopes) input gains rows (s .decorr .long) (s .decorr .short) slots low-left low-right
           → record {
             asked = s .asked;
             layout = s .layout;
             cued = h .cued;
             lines = lines;
-            history = history;
-            decorr = record { delays = delays; long = long; short = short; detectors = detectors };
+            history = new-history;
+            decorr = record { turn = turn; delays = new-delays; long = new-long; short = new-short; detectors = new-detectors };
             stereo = stereo;
           } ≡ sounded s h indices positions input left right lines
-      unfolding sounded
-      state-is lines history delays long short detectors stereo history-is detectors-is stereo-is delays-is long-is short-is =
-          rw (history-is, detectors-is, stereo-is, delays-is, long-is, short-is, left-low, right-low, given .places-are, rows-is, gains-is, samples-is, given .slots-are)
+      unfolding sounded gainsOf samplesOf
+      state-is lines turn stereo turn-is stereo-is =
+          rw (turn-is, stereo-is, after .history-is, after .delays-is, after .long-is, after .short-is, after .detectors-is, timed .places-are, rows-is, timed .slots-are)

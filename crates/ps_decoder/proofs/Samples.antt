@@ -1,17 +1,17 @@
--- The hybrid samples that the analysis leaves are those of the definitions: each all-pass channel's run is a row of the list, and each channel above is a
--- QMF band of the input. Assumes nothing.
+-- The hybrid samples that the analysis leaves are those of the definitions: each channel of a split band has a run of the list, and each channel above is
+-- a QMF band of the input. Assumes nothing.
 use mathlib.Core.Path.{_≡_, refl, ap, _∙_}
 use mathlib.Core.Bool.{Bool, true, false, cond}
 use mathlib.Core.List.{List}
 use Prim.Native.Nat.{ℕ, _+_, _-_, _*_, _<_, _≤_}
 use native.Mathlib.Omega.{arith}
-use borrow.Author.Tests.{lt-ltb, le-ltb, ltb-true, ltb-false}
+use borrow.Author.Tests.{lt-ltb, le-ltb, ltb-true}
 use lib.Dec.{ltb}
 use lib.Ieee.{Float}
 use lib.ListN.{length}
 use Rattle.complex.specs.declared.Complex.{Complex}
 use Rattle.layout.specs.declared.Layout.{Layout}
-use Rattle.layout.specs.Numbers.{allPassOf, unsplitFromOf}
+use Rattle.layout.specs.Numbers.{unsplitFromOf}
 use Rattle.layout.proofs.Bounds.{bounds}
 use Rattle.lists.specs.Part.{part}
 use Rattle.lists.specs.Rows.{rows}
@@ -28,50 +28,46 @@ use Rattle.ps_decoder.proofs.Slots.{slotIn, slot-same}
 hybrid-same : (l : Layout) (x y : ℕ → ℕ → Complex) (n k : ℕ) → ((p j : ℕ) → x p j ≡ y p j) → hybrid l x n k ≡ hybrid l y n k
 hybrid-same l x y n k same = ap (λ (z : ℕ → ℕ → Complex). hybrid l z n k) (λ i p j. same p j i)
 
-module _ (l : Layout) (history input samples : List Float) (slots : ℕ) (long : length samples ≡ 3200) where
+module _ (l : Layout) (history input samples : List Float) (slots : ℕ) (long : length samples ≡ 2048) where
   -- the run of channel k
   abbrev runOf : ℕ → List Float
   runOf k = planar 32 (overwritten slots (λ n. hybrid l (slotAt l history input) n k) (λ n. sampleAt samples n k))
 
   abbrev rowOf : ℕ → List Float
-  rowOf k = cond (ltb k (allPassOf l)) (runOf k) (part (64 * k) 64 samples)
+  rowOf k = cond (ltb k (unsplitFromOf l)) (runOf k) (part (64 * k) 64 samples)
 
-  row-length : (k : ℕ) → k < 50 → length (rowOf k) ≡ 64
-  row-length k u = go (ltb k (allPassOf l))
+  row-length : (k : ℕ) → k < 32 → length (rowOf k) ≡ 64
+  row-length k u = go (ltb k (unsplitFromOf l))
     where
       go : (t : Bool) → length (cond t (runOf k) (part (64 * k) 64 samples)) ≡ 64
       go true = planar-length 32 (overwritten slots (λ n. hybrid l (slotAt l history input) n k) (λ n. sampleAt samples n k))
       go false = part-length (64 * k) 64 samples (omega arith)
 
-  run-at : (k : ℕ) → k < allPassOf l → part (64 * k) 64 (rows rowOf 50) ≡ runOf k
+  run-at : (k : ℕ) → k < unsplitFromOf l → part (64 * k) 64 (rows rowOf 32) ≡ runOf k
   run-at k u =
       let place : 64 * k ≡ k * 64 = omega arith in
-      ap (λ (a : ℕ). part a 64 (rows rowOf 50)) place
-      ∙ rows-part rowOf 64 50 row-length k (omega (arith, bounds l .all-pass))
-      ∙ ap (λ (t : Bool). cond t (runOf k) (part (64 * k) 64 samples)) (lt-ltb k (allPassOf l) u)
+      ap (λ (a : ℕ). part a 64 (rows rowOf 32)) place
+      ∙ rows-part rowOf 64 32 row-length k (let b = bounds l in omega arith)
+      ∙ ap (λ (t : Bool). cond t (runOf k) (part (64 * k) 64 samples)) (lt-ltb k (unsplitFromOf l) u)
 
-  column-same : slots ≤ 32 → enough l history input slots ≡ true → (n k : ℕ) → n < slots → k < allPassOf l
+  column-same : slots ≤ 32 → enough l history input slots ≡ true → (n k : ℕ) → n < slots → k < unsplitFromOf l
       → sampleAt (samplesAfter l history input slots samples) n k ≡ hybrid l (slotIn history input) n k
   unfolding samplesAfter
   column-same few room n k h u =
-      ap (λ (t : Bool). sampleAt (cond t (rows rowOf 50) samples) n k) room
+      ap (λ (t : Bool). sampleAt (cond t (rows rowOf 32) samples) n k) room
       ∙ ap (λ (run : List Float). cell 32 run n) (run-at k u)
       ∙ planar-at 32 (overwritten slots (λ m. hybrid l (slotAt l history input) m k) (λ m. sampleAt samples m k)) n (omega arith)
       ∙ ap (λ (t : Bool). cond t (hybrid l (slotAt l history input) n k) (sampleAt samples n k)) (lt-ltb n slots h)
       ∙ hybrid-same l (slotAt l history input) (slotIn history input) n k (slot-same history input l)
 
-  -- a channel above the all-pass ones is no part of a split band
-  unsplit-above : (k : ℕ) → allPassOf l ≤ k → unsplitFromOf l ≤ k
-  unsplit-above k u = omega (arith, bounds l .passed)
-
   pub sample-same : slots ≤ 32 → enough l history input slots ≡ true → (n k : ℕ) → n < slots
       → sampleIn l (samplesAfter l history input slots samples) input n k ≡ hybrid l (slotIn history input) n k
   unfolding hybrid
-  sample-same few room n k h = go (ltb k (allPassOf l)) refl
+  sample-same few room n k h = go (ltb k (unsplitFromOf l)) refl
     where
-      go : (t : Bool) → ltb k (allPassOf l) ≡ t
+      go : (t : Bool) → ltb k (unsplitFromOf l) ≡ t
           → cond t (sampleAt (samplesAfter l history input slots samples) n k) (qmfAt input n (qmfBandOf l k)) ≡ hybrid l (slotIn history input) n k
-      go true e = column-same few room n k h (ltb-true k (allPassOf l) e)
+      go true e = column-same few room n k h (ltb-true k (unsplitFromOf l) e)
       go false e =
           let here : n + 6 - 6 ≡ n = omega arith in
-          rw (le-ltb k (unsplitFromOf l) (unsplit-above k (ltb-false k (allPassOf l) e)), le-ltb (n + 6) 6 (omega arith), here)
+          rw (e, le-ltb (n + 6) 6 (omega arith), here)

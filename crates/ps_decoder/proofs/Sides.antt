@@ -18,11 +18,13 @@ use Rattle.planar.proofs.Rows.{qmf-at, rows-length}
 use Rattle.ps_allpass_channels.specs.Channels as chains
 use Rattle.ps_delay_channels.specs.Channels as delayed
 use Rattle.ps_map.specs.Bands.{bandOf, conjugatedOf}
+use Rattle.ps_stereo_slots.specs.declared.Timing.{Timing}
 use Rattle.standard.specs.declared.Matrix.{Matrix}
+use Rattle.standard.specs.Channel.{rotationsOf}
 use Rattle.standard.specs.Core.{Frame, Core, decorrelated, matrixThen, leftAt, rightAt}
 use Rattle.standard.specs.Hybrid.{synthesised}
 use Rattle.standard.specs.Mixing.{leftOf, rightOf}
-use Rattle.ps_decoder.proofs.Flat.{Flat}
+use Rattle.ps_decoder.proofs.Flat.{Flat, timingOf}
 use Rattle.ps_decoder.proofs.Chains.{lowAt, chain-side, chains-left, chains-right}
 use Rattle.ps_decoder.proofs.Delays.{highAt, delay-side, delays-left, delays-right}
 
@@ -34,13 +36,16 @@ high-band : (l : Layout) (q : ℕ) → qmfBandOf l (allPassOf l) ≤ q → q < 6
     → (allPassOf l ≤ q + unsplitFromOf l - splitOf l) × ((q + unsplitFromOf l - splitOf l < channelsOf l) × (splitOf l ≤ q))
 high-band l q u h = let b = bounds l in (omega arith, (omega arith, omega arith))
 
-module _ {f : Frame} {s : Core} {places : List ℕ} {count : ℕ} {samples input gains rows delays long short : List Float}
-    (flat : Flat f s places count samples input gains rows delays long short) where
+module _ {f : Frame} {s : Core} {places : List ℕ} {count turn : ℕ} {samples input gains rows delays long short : List Float}
+    (flat : Flat f s places count turn samples input gains rows delays long short) where
   abbrev l : Layout
   l = f .head .layout
 
   abbrev slots : ℕ
   slots = f .head .slots
+
+  abbrev timing : Timing
+  timing = timingOf f places count turn
 
   -- a side of the definitions
   abbrev sideOf : (Bool → Matrix → Complex → Complex → Complex) → ℕ → ℕ → Complex
@@ -55,13 +60,13 @@ module _ {f : Frame} {s : Core} {places : List ℕ} {count : ℕ} {samples input
       (λ n q u h. go n q u h (ltb q (qmfBandOf l (allPassOf l))) refl)
     where
       go : (n q : ℕ) → n < slots → q < 64 → (t : Bool) → ltb q (qmfBandOf l (allPassOf l)) ≡ t
-          → cond t (qmfAt (qmfRows slots (lowAt flat side old)) n q) (delayed.sideAt l places count input gains rows long short side n (q + unsplitFromOf l - splitOf l))
+          → cond t (qmfAt (qmfRows slots (lowAt flat side old)) n q) (delayed.sideAt l timing input gains rows long short side n (q + unsplitFromOf l - splitOf l))
           ≡ synthesised l (sideOf side n) q
       go n q u h true e =
           let low : q < qmfBandOf l (allPassOf l) = ltb-true q (qmfBandOf l (allPassOf l)) e in
           qmf-at slots (lowAt flat side old) n q u h
-          ∙ ap (λ (t : Bool). cond t (synthesised l (chains.sideAt l places count samples gains rows delays side n) q) (qmfAt old n q)) e
-          ∙ synthesised-below l (allPassOf l) (chains.sideAt l places count samples gains rows delays side n) (sideOf side n)
+          ∙ ap (λ (t : Bool). cond t (synthesised l (chains.sideAt l timing (rotationsOf l) samples gains rows input delays side n) q) (qmfAt old n q)) e
+          ∙ synthesised-below l (allPassOf l) (chains.sideAt l timing (rotationsOf l) samples gains rows input delays side n) (sideOf side n)
           (λ k v. chain-side flat side n k u v) (bounds l .passed) q (low-band l q low)
       go n q u h false e =
           let high = high-band l q (ltb-false q (qmfBandOf l (allPassOf l)) e) h in
@@ -70,16 +75,16 @@ module _ {f : Frame} {s : Core} {places : List ℕ} {count : ℕ} {samples input
 
   module _ (left right : List Float) (few : slots ≤ 32) (left-long : length left ≡ 128 * slots) (right-long : length right ≡ 128 * slots) (room : 128 * slots ≤ length input) where
     abbrev chainsLeft : List Float
-    chainsLeft = chains.leftAfter l places count samples gains rows delays slots left right
+    chainsLeft = chains.leftAfter l timing (rotationsOf l) samples gains rows input delays left right
 
     abbrev chainsRight : List Float
-    chainsRight = chains.rightAfter l places count samples gains rows delays slots left right
+    chainsRight = chains.rightAfter l timing (rotationsOf l) samples gains rows input delays left right
 
     left-low : chainsLeft ≡ qmfRows slots (lowAt flat leftOf left)
-    left-low = chains-left flat left right few left-long right-long
+    left-low = chains-left flat left right few left-long right-long room
 
     right-low : chainsRight ≡ qmfRows slots (lowAt flat rightOf right)
-    right-low = chains-right flat left right few left-long right-long
+    right-low = chains-right flat left right few left-long right-long room
 
     pub chains-left-long : length chainsLeft ≡ 128 * slots
     chains-left-long = ap (λ (t : List Float). length t) left-low ∙ rows-length slots (lowAt flat leftOf left)
@@ -87,14 +92,14 @@ module _ {f : Frame} {s : Core} {places : List ℕ} {count : ℕ} {samples input
     pub chains-right-long : length chainsRight ≡ 128 * slots
     chains-right-long = ap (λ (t : List Float). length t) right-low ∙ rows-length slots (lowAt flat rightOf right)
 
-    pub left-after : delayed.leftAfter l places count input gains rows long short slots chainsLeft chainsRight ≡ qmfRows slots (λ n q. synthesised l (leftAt f s n) q)
+    pub left-after : delayed.leftAfter l timing input gains rows long short chainsLeft chainsRight ≡ qmfRows slots (λ n q. synthesised l (leftAt f s n) q)
     unfolding leftAt
     left-after =
         delays-left flat chainsLeft chainsRight few chains-left-long chains-right-long room
         ∙ ap (λ (old : List Float). qmfRows slots (highAt flat leftOf old)) left-low
         ∙ whole leftOf left
 
-    pub right-after : delayed.rightAfter l places count input gains rows long short slots chainsLeft chainsRight ≡ qmfRows slots (λ n q. synthesised l (rightAt f s n) q)
+    pub right-after : delayed.rightAfter l timing input gains rows long short chainsLeft chainsRight ≡ qmfRows slots (λ n q. synthesised l (rightAt f s n) q)
     unfolding rightAt
     right-after =
         delays-right flat chainsLeft chainsRight few chains-left-long chains-right-long room

@@ -22,14 +22,20 @@ use Rattle.planar.specs.Frame.{sampleIn, qmfRows}
 use Rattle.ps_allpass_channels.specs.Channels as chains
 use Rattle.ps_data.specs.declared.PsLines.{PsLines}
 use Rattle.ps_data.specs.declared.PsIndices.{PsIndices}
-use Rattle.ps_decorr.specs.Channels.{detectorsWith}
+use Rattle.ps_decorr.specs.Channels.{longWith, detectorsWith}
+use Rattle.ps_decorr.proofs.Held.{long-wraps}
+use Rattle.ps_decorr_allpass.specs.Memory.{delaysWith}
+use Rattle.ps_decorr_allpass.proofs.Wraps.{delays-wraps}
 use Rattle.ps_decorr_transient.specs.Gains.{enough, detectorsAfter, gainsAfter}
+use Rattle.ps_delay_channels.specs.Channels as delayed
 use Rattle.ps_state.specs.declared.PsDecoder.{PsDecoder}
-use Rattle.ps_state.specs.State.{coreOf, stored}
+use Rattle.ps_state.specs.State.{coreOf, turnAfter, stored}
 use Rattle.ps_stereo.specs.Kept.{stereoWith}
 use Rattle.ps_stereo_borders.specs.Borders as borders
+use Rattle.ps_stereo_slots.specs.declared.Timing.{Timing}
 use Rattle.ps_stereo_slots.specs.Slots as slotted
-use Rattle.standard.specs.Core.{Frame, Core, powerThen, detectorThen, duck, keptThen, matrixThen, leftAt, rightAt, after}
+use Rattle.standard.specs.Channel.{rotationsOf}
+use Rattle.standard.specs.Core.{Frame, Core, channelThen, powerThen, detectorThen, duck, keptThen, matrixThen, leftAt, rightAt, after}
 use Rattle.standard.specs.Hybrid.{hybrid, synthesised}
 use Rattle.standard.specs.Interpolation.{matrixIn}
 use Rattle.standard.specs.Numbers.{zero}
@@ -38,7 +44,7 @@ use Rattle.ps_decoder.proofs.Slots.{slotIn, pastAfter, history-same}
 use Rattle.ps_decoder.proofs.Samples.{sample-same}
 use Rattle.ps_decoder.proofs.Ducking.{detectors-then, gain-same}
 use Rattle.ps_decoder.proofs.Coefficients.{matrix-then}
-use Rattle.ps_decoder.proofs.Flat.{Flat}
+use Rattle.ps_decoder.proofs.Flat.{Flat, timingOf}
 use Rattle.ps_decoder.proofs.Chains.{delays-after}
 use Rattle.ps_decoder.proofs.Delays.{long-after, short-after}
 use Rattle.ps_decoder.proofs.Sides.{chains-left-long, chains-right-long, left-after, right-after}
@@ -140,7 +146,7 @@ module _ (s : PsDecoder) (h : Header) (indices : PsIndices) (positions : List �
 
   sample-is : (n k : ℕ) → n < slots → k < channelsOf (s .layout) → sampleIn (s .layout) samples input n k ≡ frame .sample n k
   unfolding samplesOf
-  sample-is n k u w = sample-same (s .layout) (s .history) input (replicate 3200 zero) slots (length-replicate 3200 zero) few (fitting .room) n k u
+  sample-is n k u w = sample-same (s .layout) (s .history) input (replicate 2048 zero) slots (length-replicate 2048 zero) few (fitting .room) n k u
 
   gain-is : (b n : ℕ) → b < bandsOf (s .layout) → n < slots → getD gains (32 * b + n) nan ≡ duck frame core b n
   unfolding gainsOf duck detectorThen powerThen coreOf
@@ -154,16 +160,19 @@ module _ (s : PsDecoder) (h : Header) (indices : PsIndices) (positions : List �
       matrix-then (s .layout) (modesOf h) (h .config) indices (s .stereo) (replicate limits.matrices zero) (length-replicate limits.matrices zero) (frame .head .borders) (h .envelopes) b n borders-long u
 
   -- each stage's list holds what the definitions say
-  pub flat : Flat frame core (padded limits.envelopes 0 (frame .head .borders)) (h .envelopes) samples input gains rows (s .decorr .delays) (s .decorr .long) (s .decorr .short)
+  pub flat : Flat frame core (padded limits.envelopes 0 (frame .head .borders)) (h .envelopes) (s .decorr .turn) samples input gains rows (s .decorr .delays) (s .decorr .long) (s .decorr .short)
   unfolding coreOf
   flat = record { sample = sample-is; gain = gain-is; matrix = matrix-is; channel = λ k. refl }
 
+  abbrev times : Timing
+  times = timingOf frame (padded limits.envelopes 0 (frame .head .borders)) (h .envelopes) (s .decorr .turn)
+
   -- both sides as the all-pass channels leave them
   abbrev lowLeft : List Float
-  lowLeft = chains.leftAfter (s .layout) (padded limits.envelopes 0 (frame .head .borders)) (h .envelopes) samples gains rows (s .decorr .delays) slots left right
+  lowLeft = chains.leftAfter (s .layout) times (rotationsOf (s .layout)) samples gains rows input (s .decorr .delays) left right
 
   abbrev lowRight : List Float
-  lowRight = chains.rightAfter (s .layout) (padded limits.envelopes 0 (frame .head .borders)) (h .envelopes) samples gains rows (s .decorr .delays) slots left right
+  lowRight = chains.rightAfter (s .layout) times (rotationsOf (s .layout)) samples gains rows input (s .decorr .delays) left right
 
   low-left : length lowLeft ≡ 128 * slots
   low-left = chains-left-long flat left right few (fitting .left-long) (fitting .right-long) rows-there
@@ -182,6 +191,19 @@ module _ (s : PsDecoder) (h : Header) (indices : PsIndices) (positions : List �
   unfolding borders.stereoAfter borders.keptThen keptThen coreOf
   stereo-is = ap (λ (count : ℕ). stereoWith (s .layout) (λ b. keptThen frame core b count) (s .stereo)) (sym borders-long)
 
+  -- the rings go on at the remainder of the slots so far
+  delays-are : chains.delaysAfter (s .layout) times (rotationsOf (s .layout)) samples gains rows input (s .decorr .delays) left right
+      ≡ delaysWith (s .layout) (turnAfter s slots) (λ k. channelThen frame core k slots) (s .decorr .delays)
+  delays-are =
+      delays-after flat left right few (fitting .left-long) (fitting .right-long) rows-there
+      ∙ sym (delays-wraps (s .decorr .turn + slots) (s .layout) (λ k. channelThen frame core k slots) (s .decorr .delays))
+
+  long-is : delayed.longAfter (s .layout) times input gains rows (s .decorr .long) (s .decorr .short) lowLeft lowRight
+      ≡ longWith (s .layout) (turnAfter s slots) (λ k. channelThen frame core k slots)
+  long-is =
+      long-after flat lowLeft lowRight few low-left low-right rows-there
+      ∙ sym (long-wraps (s .layout) (λ k. channelThen frame core k slots) (s .decorr .turn + slots))
+
   state-same : (lines : PsLines) → sounded s h indices positions input left right lines ≡ stored s (flatAfter s input frame lines)
   unfolding sounded stored after coreOf
   state-same lines =
@@ -194,8 +216,9 @@ module _ (s : PsDecoder) (h : Header) (indices : PsIndices) (positions : List �
         history = history-same (s .history) input (s .layout) slots many (fitting .room) i;
         decorr =
             record {
-              delays = delays-after flat left right few (fitting .left-long) (fitting .right-long) i;
-              long = long-after flat lowLeft lowRight few low-left low-right rows-there i;
+              turn = turnAfter s slots;
+              delays = delays-are i;
+              long = long-is i;
               short = short-after flat lowLeft lowRight few low-left low-right rows-there i;
               detectors = detectors-are i;
             };

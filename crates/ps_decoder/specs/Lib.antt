@@ -1,4 +1,5 @@
 pub mod Frame
+pub mod Staged
 pub mod Sound
 pub mod Run
 pub mod Isolation

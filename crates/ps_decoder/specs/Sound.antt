@@ -4,6 +4,7 @@ use Prim.Native.Nat.{ℕ, min}
 use mathlib.Core.List.{List}
 use mathlib.Core.Path.{_≡_}
 use lib.Ieee.{Float}
+use lib.IntN.{ℤ}
 use lib.ListN.{replicate}
 use Rattle.borders.specs.Borders.{slotsOf, bordersOf}
 use Rattle.cue.specs.declared.Header.{Header}
@@ -20,6 +21,9 @@ use Rattle.ps_delay_channels.specs.Channels as delays
 use Rattle.ps_hybrid_analysis.specs.Analysis as analysis
 use Rattle.ps_stereo_borders.specs.Borders as borders
 use Rattle.ps_state.specs.declared.PsDecoder.{PsDecoder}
+use Rattle.ps_state.specs.State.{turnAfter}
+use Rattle.ps_stereo_slots.specs.declared.Timing.{Timing}
+use Rattle.standard.specs.Channel.{rotationsOf}
 use Rattle.standard.specs.Numbers.{zero}
 
 -- a state that is ready, what the line says, and the buffers
@@ -33,8 +37,11 @@ module _ (s : PsDecoder) (h : Header) (indices : PsIndices) (positions : List �
   abbrev places : List ℕ
   places = padded limits.envelopes 0 (bordersOf slots (h .variable) count positions)
 
+  abbrev timing : Timing
+  timing = record { borders = places; count = h .envelopes; slots = slots; turn = s .decorr .turn }
+
   unfoldable pub samplesOf : List Float
-  samplesOf = analysis.samplesAfter (s .layout) (s .history) input slots (replicate 3200 zero)
+  samplesOf = analysis.samplesAfter (s .layout) (s .history) input slots (replicate 2048 zero)
 
   unfoldable pub gainsOf : List Float
   gainsOf = gains.gainsAfter (s .layout) (s .decorr .detectors) samplesOf input (min slots 32) (replicate 1088 zero)
@@ -43,13 +50,13 @@ module _ (s : PsDecoder) (h : Header) (indices : PsIndices) (positions : List �
   rowsOf = borders.rowsAfter (s .layout) (modesOf h) (h .config) indices (s .stereo) count (replicate limits.matrices zero)
 
   -- a result of the all-pass channels
-  abbrev throughChains : (Layout → List ℕ → ℕ → List Float → List Float → List Float → List Float → ℕ → List Float → List Float → List Float) → List Float
-  throughChains result = result (s .layout) places (h .envelopes) samplesOf gainsOf rowsOf (s .decorr .delays) slots left right
+  abbrev throughChains : (Layout → Timing → List ℤ → List Float → List Float → List Float → List Float → List Float → List Float → List Float → List Float) → List Float
+  throughChains result = result (s .layout) timing (rotationsOf (s .layout)) samplesOf gainsOf rowsOf input (s .decorr .delays) left right
 
   -- and of the plain delays, on both sides as the all-pass channels left them
-  abbrev throughDelays : (Layout → List ℕ → ℕ → List Float → List Float → List Float → List Float → List Float → ℕ → List Float → List Float → List Float) → List Float
+  abbrev throughDelays : (Layout → Timing → List Float → List Float → List Float → List Float → List Float → List Float → List Float → List Float) → List Float
   throughDelays result =
-      result (s .layout) places (h .envelopes) input gainsOf rowsOf (s .decorr .long) (s .decorr .short) slots (throughChains chains.leftAfter) (throughChains chains.rightAfter)
+      result (s .layout) timing input gainsOf rowsOf (s .decorr .long) (s .decorr .short) (throughChains chains.leftAfter) (throughChains chains.rightAfter)
 
   unfoldable pub leftOf : List Float
   leftOf = throughDelays delays.leftAfter
@@ -67,6 +74,7 @@ module _ (s : PsDecoder) (h : Header) (indices : PsIndices) (positions : List �
         history = analysis.historyAfter (s .layout) (s .history) input slots;
         decorr =
             record {
+              turn = turnAfter s slots;
               delays = throughChains chains.delaysAfter;
               long = throughDelays delays.longAfter;
               short = throughDelays delays.shortAfter;

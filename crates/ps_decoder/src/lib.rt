@@ -35,7 +35,7 @@ pub struct Answered {
 fn play(
     carried: PsCarried,
     history: &mut [f64; 60],
-    delays: &mut [f64; 1400],
+    delays: &mut [f64; 1456],
     long: &mut [f64; 336],
     short: &mut [f64; 58],
     detectors: &mut [f64; 102],
@@ -65,9 +65,6 @@ fn play(
         short,
         detectors,
     );
-    let indices = resolved.indices;
-    let positions = resolved.positions;
-    let lines = resolved.lines;
     sound::sound(
         ready,
         history,
@@ -76,9 +73,7 @@ fn play(
         short,
         detectors,
         header,
-        indices,
-        positions,
-        lines,
+        resolved,
         input,
         left,
         right,
@@ -96,7 +91,7 @@ fn sized(history: &[f64], delays: &[f64], long: &[f64], short: &[f64], detectors
 pub fn lent_frame(
     carried: PsCarried,
     history: &mut [f64; 60],
-    delays: &mut [f64; 1400],
+    delays: &mut [f64; 1456],
     long: &mut [f64; 336],
     short: &mut [f64; 58],
     detectors: &mut [f64; 102],

@@ -1,1 +1,3 @@
-pub mod Clearing
+pub mod Silenced
+pub mod Ranges
+pub mod Held

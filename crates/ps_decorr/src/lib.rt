@@ -1,14 +1,18 @@
 // The carried state of de-correlation (source document 001): flat arrays of floats with fixed places for each channel and band.
+use layout::Kind;
 use layout::Layout;
 ghost use mathlib.Core.Path.{_≡_};
-ghost use Prim.Native.Nat.{_-_, _*_, _≤_, min};
+ghost use Prim.Native.Nat.{_*_, _%_, _<_, _≤_};
 ghost use lib.ListN.{length};
-ghost use Rattle.layout.specs.Numbers.{allPassOf, shortDelayOf};
-ghost use Rattle.ps_decorr.specs.State.{freshDecorr, clearedFrom, delaysReset, longReset, shortReset};
+ghost use Rattle.ps_decorr_allpass.specs.Memory.{ownerOf};
+ghost use Rattle.ps_decorr_allpass.specs.Memory.{silencedFrom};
+ghost use Rattle.ps_decorr.specs.State.{freshDecorr, delaysReset, longReset, shortReset};
 
-// The all-pass channels, the delays of 14 slots, those of one slot, and the transient detectors.
+// How many slots have come, modulo 420, of which the length of every ring is a divisor; the rings of the all-pass channels, the ring of the delays of 14
+// slots, the delays of one slot, and the transient detectors.
 pub struct PsDecorr {
-    pub delays: [f64; 1400],
+    pub turn: usize,
+    pub delays: [f64; 1456],
     pub long: [f64; 336],
     pub short: [f64; 58],
     pub detectors: [f64; 102],
@@ -19,77 +23,67 @@ pub fn fresh() -> PsDecorr
     ensures { λ r. ⌜ r ≡ freshDecorr ⌝ }
 {
     PsDecorr {
-        delays: [0.0; 1400],
+        turn: 0,
+        delays: [0.0; 1456],
         long: [0.0; 336],
         short: [0.0; 58],
         detectors: [0.0; 102],
     }
 }
 
-fn clear_from(xs: &mut [f64], place: usize)
-    requires { ⌜ place ≤ length (now xs) ⌝ }
-    ensures { λ _. ⌜ now (xs .exit) ≡ clearedFrom place (now (xs .entry)) ⌝ }
+// The columns from one on, in each of some rows.
+fn clear_columns(xs: &mut [f64], rows: usize, width: usize, column: usize)
+    requires { ⌜ (length (now xs) ≡ rows * width) × (column ≤ width) ⌝ }
+    ensures { λ _. ⌜ now (xs .exit) ≡ silencedFrom (λ m. m % width) column (now (xs .entry)) ⌝ }
 {
-    let mut i = place;
-    while i < xs.len() {
-        xs[i] = 0.0;
-        i += 1;
+    let mut at = 0;
+    for _row in 0..rows {
+        for i in at + column..at + width {
+            xs[i] = 0.0;
+        }
+        at += width;
     }
 }
 
-fn clear_delays(delays: &mut [f64; 1400], place: usize)
-    requires { ⌜ place ≤ 1400 ⌝ }
-    ensures { λ _. ⌜ now (delays .exit) ≡ clearedFrom place (now (delays .entry)) ⌝ }
+// The all-pass channels from k on: the lanes of its own group, then the groups behind it.
+fn clear_chains(delays: &mut [f64], k: usize)
+    requires { ⌜ (length (now delays) ≡ 1456) × (k < 52) ⌝ }
+    ensures { λ _. ⌜ now (delays .exit) ≡ silencedFrom ownerOf k (now (delays .entry)) ⌝ }
 {
-    clear_from(delays, place);
-}
-
-fn clear_long(long: &mut [f64; 336], place: usize)
-    requires { ⌜ place ≤ 336 ⌝ }
-    ensures { λ _. ⌜ now (long .exit) ≡ clearedFrom place (now (long .entry)) ⌝ }
-{
-    clear_from(long, place);
-}
-
-fn clear_short(short: &mut [f64; 58], place: usize)
-    requires { ⌜ place ≤ 58 ⌝ }
-    ensures { λ _. ⌜ now (short .exit) ≡ clearedFrom place (now (short .entry)) ⌝ }
-{
-    clear_from(short, place);
-}
-
-// Where channel k starts among the 50 all-pass channels, and below among the 12 long delays and the 29 short ones; their end past the last.
-fn delays_place(k: usize) -> usize
-    ensures { λ r. ⌜ r ≡ 28 * min k 50 ⌝ }
-{
-    28 * limits::least(k, 50)
-}
-
-fn long_place(layout: Layout, k: usize) -> usize
-    ensures { λ r. ⌜ r ≡ 28 * min (k - allPassOf layout) 12 ⌝ }
-{
-    28 * limits::least(limits::above(k, layout.all_pass()), 12)
-}
-
-fn short_place(layout: Layout, k: usize) -> usize
-    ensures { λ r. ⌜ r ≡ 2 * min (k - shortDelayOf layout) 29 ⌝ }
-{
-    2 * limits::least(limits::above(k, layout.short_delay()), 29)
+    let at = 112 * (k / 4);
+    clear_columns(&mut delays[at..at + 112], 28, 4, k % 4);
+    clear_columns(delays, 1, 1456, at + 112);
 }
 
 // A frame's own reset: the delays of the channels from k on.
 pub fn reset_from(
     layout: Layout,
     k: usize,
-    delays: &mut [f64; 1400],
+    delays: &mut [f64; 1456],
     long: &mut [f64; 336],
     short: &mut [f64; 58],
 )
-    ensures delays { λ _. ⌜ now (delays .exit) ≡ delaysReset k (now (delays .entry)) ⌝ }
+    ensures delays { λ _. ⌜ now (delays .exit) ≡ delaysReset layout k (now (delays .entry)) ⌝ }
     ensures long { λ _. ⌜ now (long .exit) ≡ longReset layout k (now (long .entry)) ⌝ }
     ensures short { λ _. ⌜ now (short .exit) ≡ shortReset layout k (now (short .entry)) ⌝ }
 {
-    clear_delays(delays, delays_place(k));
-    clear_long(long, long_place(layout, k));
-    clear_short(short, short_place(layout, k));
+    match layout.kind(k) {
+        Kind::AllPass => {
+            clear_chains(delays, k);
+            clear_columns(long, 1, 336, 0);
+            clear_columns(short, 1, 58, 0);
+        }
+        Kind::Long => {
+            clear_columns(long, 14, 24, 2 * (k - layout.all_pass()));
+            clear_columns(short, 1, 58, 0);
+        }
+        Kind::Short => {
+            clear_columns(
+                short,
+                1,
+                58,
+                2 * limits::least(k - layout.short_delay(), 29),
+            );
+        }
+    }
 }

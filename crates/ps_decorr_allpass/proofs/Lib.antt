@@ -1,3 +1,4 @@
-pub mod Copies
-pub mod Frames
-pub mod Steps
+pub mod Places
+pub mod Rings
+pub mod Wraps
+pub mod Silenced

@@ -14,7 +14,7 @@ use Rattle.complex.specs.declared.Complex.{Complex}
 use Rattle.complex.specs.Operations.{squaredMagnitude}
 use Rattle.layout.specs.declared.Layout.{Layout}
 use Rattle.layout.specs.declared.Layout.the-variants.{Bands20, Bands34}
-use Rattle.layout.specs.Numbers.{bandsOf, channelsOf, allPassOf, splitOf, unsplitFromOf}
+use Rattle.layout.specs.Numbers.{bandsOf, channelsOf, splitOf, unsplitFromOf}
 use Rattle.layout.proofs.Bounds.{bounds}
 use Rattle.lists.proofs.Parts.{part-at}
 use Rattle.planar.specs.Frame.{sampleAt, qmfBandOf, sampleIn}
@@ -75,20 +75,20 @@ sample-is samples k n u =
     let behind : 64 * k + n + 32 ≡ 64 * k + (n + 32) = omega arith in
     by-parts (sym (part-at _ 64 samples n nan (omega arith))) (ap (λ (i : ℕ). getD samples i nan) behind ∙ sym (part-at _ 64 samples (n + 32) nan (omega arith)))
 
-band-is : (l : Layout) (k : ℕ) → allPassOf l ≤ k → k - allPassOf l + (allPassOf l + splitOf l - unsplitFromOf l) ≡ qmfBandOf l k
+band-is : (l : Layout) (k : ℕ) → unsplitFromOf l ≤ k → k - unsplitFromOf l + splitOf l ≡ qmfBandOf l k
 band-is Bands20 k h = omega arith
 band-is Bands34 k h = omega arith
 
 module _ (l : Layout) (samples input : List Float) (slots : ℕ) (few : slots ≤ 32) where
-  below : (k n : ℕ) → k < allPassOf l → n < slots → inRow samples (64 * k) n ≡ sampleIn l samples input n k
-  below k n u w = rw (lt-ltb k (allPassOf l) u) (sample-is samples k n (omega arith))
+  below : (k n : ℕ) → k < unsplitFromOf l → n < slots → inRow samples (64 * k) n ≡ sampleIn l samples input n k
+  below k n u w = rw (lt-ltb k (unsplitFromOf l) u) (sample-is samples k n (omega arith))
 
-  above : (k n : ℕ) → allPassOf l ≤ k → inColumn input (2 * (k - allPassOf l + (allPassOf l + splitOf l - unsplitFromOf l))) n ≡ sampleIn l samples input n k
-  above k n u = rw (le-ltb k (allPassOf l) u, band-is l k u)
+  above : (k n : ℕ) → unsplitFromOf l ≤ k → inColumn input (2 * (k - unsplitFromOf l + splitOf l)) n ≡ sampleIn l samples input n k
+  above k n u = rw (le-ltb k (unsplitFromOf l) u, band-is l k u)
 
   pub powers-all : {map : List ℕ} {start gains next : List Float} → map ≡ parameterMap l → Cleared numbers.zero (bandsOf l) slots start
-      → Summed map (λ k. inRow samples (64 * k)) 0 (allPassOf l) slots start gains
-      → Summed map (λ k. inColumn input (2 * (k - allPassOf l + (allPassOf l + splitOf l - unsplitFromOf l)))) (allPassOf l) (channelsOf l) slots gains next
+      → Summed map (λ k. inRow samples (64 * k)) 0 (unsplitFromOf l) slots start gains
+      → Summed map (λ k. inColumn input (2 * (k - unsplitFromOf l + splitOf l))) (unsplitFromOf l) (channelsOf l) slots gains next
       → Rowed 0 (bandsOf l) slots (powerAt l samples input) start next
   unfolding powerAt powerTo
   powers-all {start = start} e clear r s =
@@ -102,14 +102,12 @@ band-fits l map k e = rw e (omega (arith, band-small l k, bounds l .bands))
 pub map-banded : (l : Layout) (map : List ℕ) → map ≡ parameterMap l → Banded map
 map-banded l map e = record { small = λ k. band-fits l map k e }
 
-pub record Fitting (passes channels split unsplit-from : ℕ) : Type 0 where
-  pub rows : passes ≤ 50
+pub record Fitting (unsplit channels split : ℕ) : Type 0 where
+  pub rows : unsplit ≤ 32
   pub places : channels ≤ 91
-  pub above : passes ≤ channels
-  pub behind : passes + split ≤ 64
-  pub unsplit : unsplit-from ≤ passes + split
-  pub columns : channels - passes + (passes + split - unsplit-from) ≤ 64
+  pub above : unsplit ≤ channels
+  pub columns : channels - unsplit + split ≤ 64
 
-pub numbers-fit : (l : Layout) → Fitting (allPassOf l) (channelsOf l) (splitOf l) (unsplitFromOf l)
-numbers-fit Bands20 = record { rows = omega arith; places = omega arith; above = omega arith; behind = omega arith; unsplit = omega arith; columns = omega arith }
-numbers-fit Bands34 = record { rows = omega arith; places = omega arith; above = omega arith; behind = omega arith; unsplit = omega arith; columns = omega arith }
+pub numbers-fit : (l : Layout) → Fitting (unsplitFromOf l) (channelsOf l) (splitOf l)
+numbers-fit Bands20 = record { rows = omega arith; places = omega arith; above = omega arith; columns = omega arith }
+numbers-fit Bands34 = record { rows = omega arith; places = omega arith; above = omega arith; columns = omega arith }

@@ -68,13 +68,13 @@ fn add_column(gains: &mut [f64], at: usize, input: &[f64], from: usize, slots: u
     }
 }
 
-// The powers of the all-pass channels, in rising order.
-fn add_rows(map: &[u8; 91], passes: usize, samples: &[f64], slots: usize, gains: &mut [f64])
-    requires { ⌜ (length (now samples) ≡ 3200) × ((length (now gains) ≡ 1088) × ((slots ≤ 32) × (passes ≤ 50))) ⌝ }
+// The powers of the split bands' channels, in rising order.
+fn add_rows(map: &[u8; 91], unsplit: usize, samples: &[f64], slots: usize, gains: &mut [f64])
+    requires { ⌜ (length (now samples) ≡ 2048) × ((length (now gains) ≡ 1088) × ((slots ≤ 32) × (unsplit ≤ 32))) ⌝ }
     requires { ⌜ Banded (now map) ⌝ }
-    ensures { λ _. ⌜ Summed (now (map .entry)) (λ k. inRow (now (samples .entry)) (64 * k)) 0 passes slots (now (gains .entry)) (now (gains .exit)) ⌝ }
+    ensures { λ _. ⌜ Summed (now (map .entry)) (λ k. inRow (now (samples .entry)) (64 * k)) 0 unsplit slots (now (gains .entry)) (now (gains .exit)) ⌝ }
 {
-    for k in 0..passes {
+    for k in 0..unsplit {
         let b = map[k] as usize;
         add_row(gains, 32 * b, samples, 64 * k, slots);
     }
@@ -83,7 +83,7 @@ fn add_rows(map: &[u8; 91], passes: usize, samples: &[f64], slots: usize, gains:
 // And of the channels above them, the first of which is QMF band `from`.
 fn add_columns(
     map: &[u8; 91],
-    passes: usize,
+    unsplit: usize,
     channels: usize,
     from: usize,
     input: &[f64],
@@ -91,28 +91,35 @@ fn add_columns(
     gains: &mut [f64],
 )
     requires { ⌜ (128 * slots ≤ length (now input)) × ((length (now gains) ≡ 1088) × (slots ≤ 32)) ⌝ }
-    requires { ⌜ (passes ≤ channels) × ((channels ≤ 91) × (channels - passes + from ≤ 64)) ⌝ }
+    requires { ⌜ (unsplit ≤ channels) × ((channels ≤ 91) × (channels - unsplit + from ≤ 64)) ⌝ }
     requires { ⌜ Banded (now map) ⌝ }
-    ensures { λ _. ⌜ Summed (now (map .entry)) (λ k. inColumn (now (input .entry)) (2 * (k - passes + from))) passes channels slots (now (gains .entry)) (now (gains .exit)) ⌝ }
+    ensures { λ _. ⌜ Summed (now (map .entry)) (λ k. inColumn (now (input .entry)) (2 * (k - unsplit + from))) unsplit channels slots (now (gains .entry)) (now (gains .exit)) ⌝ }
 {
-    for k in passes..channels {
+    for k in unsplit..channels {
         let b = map[k] as usize;
-        add_column(gains, 32 * b, input, 2 * (k - passes + from), slots);
+        add_column(gains, 32 * b, input, 2 * (k - unsplit + from), slots);
     }
 }
 
 // The powers of all bands, channel by channel in rising order.
 fn add_powers(layout: Layout, samples: &[f64], input: &[f64], slots: usize, gains: &mut [f64])
-    requires { ⌜ (length (now samples) ≡ 3200) × ((length (now gains) ≡ 1088) × (slots ≤ 32)) ⌝ }
+    requires { ⌜ (length (now samples) ≡ 2048) × ((length (now gains) ≡ 1088) × (slots ≤ 32)) ⌝ }
     requires { ⌜ 128 * slots ≤ length (now input) ⌝ }
     requires { ⌜ Cleared zero (bandsOf layout) slots (now gains) ⌝ }
     ensures { λ _. ⌜ Rowed 0 (bandsOf layout) slots (powerAt layout (now (samples .entry)) (now (input .entry))) (now (gains .entry)) (now (gains .exit)) ⌝ }
 {
     let map = ps_map::parameter_map(layout);
-    let passes = layout.all_pass();
-    add_rows(&map, passes, samples, slots, gains);
-    let from = passes + layout.split() - layout.unsplit_from();
-    add_columns(&map, passes, layout.channels(), from, input, slots, gains);
+    let unsplit = layout.unsplit_from();
+    add_rows(&map, unsplit, samples, slots, gains);
+    add_columns(
+        &map,
+        unsplit,
+        layout.channels(),
+        layout.split(),
+        input,
+        slots,
+        gains,
+    );
 }
 
 // A band's detector.
@@ -225,7 +232,7 @@ fn duck_rows(detectors: &mut [f64], gains: &mut [f64], bands: usize, slots: usiz
 pub fn duck(
     layout: Layout,
     detectors: &mut [f64; 102],
-    samples: &[f64; 3200],
+    samples: &[f64; 2048],
     input: &[f64],
     slots: usize,
     gains: &mut [f64; 1088],

@@ -3,8 +3,8 @@ use mathlib.Core.Path.{_≡_, refl, sym, ap, ap₂, _∙_}
 use mathlib.Core.Logic.{_⊎_, inl, inr}
 use mathlib.Core.Bool.{Bool, true, false}
 use mathlib.Core.List.{List}
-use Prim.Native.Nat.{ℕ, suc, _+_, _-_, _*_, _<_, _≤_}
-use native.Mathlib.Nat.{add-sub-cancel-left, eq-or-lt-of-le, mul-le-mul-left}
+use Prim.Native.Nat.{ℕ, _+_, _-_, _*_, _%_, _<_, _≤_}
+use native.Mathlib.Nat.{add-sub-cancel-left, eq-or-lt-of-le}
 use native.Mathlib.Omega.{arith}
 use borrow.Author.Tests.{ltb-true, ltb-false, lt-ltb, le-ltb}
 use borrow.Rule.Slice.PartMut.{same-len-mid}
@@ -19,6 +19,7 @@ use Rattle.planar.specs.Cells.{cell}
 use Rattle.planar.specs.Frame.{qmfAt, matrixAt}
 use Rattle.planar.proofs.Cells.{by-parts}
 use Rattle.standard.specs.declared.Matrix.{Matrix}
+use Rattle.ps_delay_channels.specs.declared.rows.Delay.{Delay}
 use Rattle.ps_delay_channels.specs.Rows.{Before, Frame, Weighed, Banded, earlier, mixedAt}
 
 -- ---- a part that is lent is as long as its end says
@@ -36,13 +37,13 @@ lent-pair a k xs i u =
 
 -- ---- pairs of a list to which a part came back
 module _ (a k : ℕ) (xs ys : List Float) (inside : a ≤ length xs) (row : length ys ≡ k) where
-  pair-before : (i : ℕ) → i + 1 < a → cell 1 (put a k xs ys) i ≡ cell 1 xs i
+  pub pair-before : (i : ℕ) → i + 1 < a → cell 1 (put a k xs ys) i ≡ cell 1 xs i
   pair-before i u = by-parts (put-before a k xs ys inside i nan (omega arith)) (put-before a k xs ys inside (i + 1) nan u)
 
-  pair-behind : (i : ℕ) → a + k ≤ i → cell 1 (put a k xs ys) i ≡ cell 1 xs i
+  pub pair-behind : (i : ℕ) → a + k ≤ i → cell 1 (put a k xs ys) i ≡ cell 1 xs i
   pair-behind i u = by-parts (put-behind a k xs ys inside i nan row u) (put-behind a k xs ys inside (i + 1) nan row (omega arith))
 
-  pair-within : (i j : ℕ) → j ≡ a + i → i + 1 < k → cell 1 (put a k xs ys) j ≡ cell 1 ys i
+  pub pair-within : (i j : ℕ) → j ≡ a + i → i + 1 < k → cell 1 (put a k xs ys) j ≡ cell 1 ys i
   pair-within i j e u =
       let next : a + i + 1 ≡ a + (i + 1) = omega arith in
       rw e
@@ -107,60 +108,61 @@ module _ {from count slots n : ℕ} {f : ℕ → ℕ → Complex} {old mid : Lis
       over m q a b false e = behind (128 * m + 2 * q) (omega (arith, ltb-false m n e))
 
 -- ---- what came before, in rows or in the input
-module _ (delay row first : ℕ) (before input : List Float) (n q place : ℕ) where
-  pub earlier-kept : n < delay → place ≡ row * n + 2 * (q - first) → cell 1 before place ≡ earlier delay row first before input n q
+module _ (d : Delay) (before input : List Float) (n q place : ℕ) where
+  pub earlier-kept : n < d .slots → place ≡ 24 * ((d .position + n) % 14) + 2 * (q - d .first) → cell 1 before place ≡ earlier d before input n q
   unfolding earlier
-  earlier-kept u e = rw (lt-ltb n delay u) (ap (cell 1 before) e)
+  earlier-kept u e = rw (lt-ltb n (d .slots) u) (ap (cell 1 before) e)
 
-  pub earlier-came : delay ≤ n → place ≡ 128 * (n - delay) + 2 * q → cell 1 input place ≡ earlier delay row first before input n q
+  pub earlier-came : d .slots ≤ n → place ≡ 128 * (n - d .slots) + 2 * q → cell 1 input place ≡ earlier d before input n q
   unfolding earlier
-  earlier-came u e = rw (le-ltb n delay u) (ap (cell 1 input) e)
+  earlier-came u e = rw (le-ltb n (d .slots) u) (ap (cell 1 input) e)
 
 -- the rows have room for slot n's run
-pub row-room : {delay row first from count : ℕ} {before : List Float} (n : ℕ) → Before delay row first from count before → n < delay
-    → row * n + 2 * (from - first) + 2 * count ≤ length before
-row-room {delay} {row} n b u = omega (arith, b .within, b .wide, b .long, mul-le-mul-left {m = suc n} {n = delay} row u)
+pub row-room : {d : Delay} {from count : ℕ} {before : List Float} (n : ℕ) → Before d from count before → n < d .slots
+    → 24 * ((d .position + n) % 14) + 2 * (from - d .first) + 2 * count ≤ length before
+row-room n b u = omega (arith, b .behind, b .within, b .memory .room n u)
 
 -- ---- a slot's run that was lent and is weighed
-module _ (side : Bool → Matrix → Complex → Complex → Complex) (runs gains input before : List Float) (delay row first from count slots : ℕ) where
+module _ (side : Bool → Matrix → Complex → Complex → Complex) (runs gains input before : List Float) (d : Delay) (from count slots : ℕ) where
   abbrev pub mixing : ℕ → ℕ → Complex
-  mixing = mixedAt side runs gains input (earlier delay row first before input)
+  mixing = mixedAt side runs gains input (earlier d before input)
 
   -- a band of the run, whichever list its delayed sample is lent from
   mixed-lent : (n v then : ℕ) (source ys : List Float) → v ≡ 2 * count
       → Weighed side runs n (getD gains n nan) count (part (128 * n + 2 * from) (2 * count) input) (part then v source) ys
-      → (q : ℕ) → from ≤ q → q < from + count → cell 1 source (then + 2 * (q - from)) ≡ earlier delay row first before input n q
+      → (q : ℕ) → from ≤ q → q < from + count → cell 1 source (then + 2 * (q - from)) ≡ earlier d before input n q
       → cell 1 ys (2 * (q - from)) ≡ mixing n q
   unfolding mixedAt
   mixed-lent n v then source ys e weighed q a b is =
       let here : 128 * n + 2 * from + 2 * (q - from) ≡ 128 * n + 2 * q = omega arith in
       weighed .each (q - from) (omega arith)
-      ∙ ap₂ (λ (x d : Complex). side false (matrixAt runs n) x (scaled d (getD gains n nan)))
+      ∙ ap₂ (λ (x z : Complex). side false (matrixAt runs n) x (scaled z (getD gains n nan)))
       (lent-pair (128 * n + 2 * from) (2 * count) input (2 * (q - from)) (omega arith) ∙ ap (cell 1 input) here)
       (rw e (lent-pair then (2 * count) source (2 * (q - from)) (omega arith)) ∙ is)
 
   module _ {n : ℕ} {left right old mid : List Float} (r : Banding from count slots mixing old mid n) (frame : Frame from count slots input left right)
-      (whole : length old ≡ 128 * slots) (more : n < slots) (w v : ℕ) (e : w ≡ 2 * count) (d : v ≡ 2 * count) (ys : List Float)
+      (whole : length old ≡ 128 * slots) (more : n < slots) (w v : ℕ) (e : w ≡ 2 * count) (f : v ≡ 2 * count) (ys : List Float)
       (row-long : length ys ≡ length (part (128 * n + 2 * from) w mid)) where
     as-wide : length ys ≡ 2 * count
     as-wide = row-long ∙ lent-long (128 * n + 2 * from) (2 * count) w mid e (omega (arith, r .long, frame .bands))
 
-    -- a slot whose delayed run stands in rows from before the frame
-    pub banding-kept : n < delay → Before delay row first from count before
-        → Weighed side runs n (getD gains n nan) count (part (128 * n + 2 * from) w input) (part (row * n + 2 * (from - first)) v before) ys
+    -- a slot whose delayed run stands in the rows of the memory
+    pub banding-kept : n < d .slots → Before d from count before
+        → Weighed side runs n (getD gains n nan) count (part (128 * n + 2 * from) w input) (part (24 * ((d .position + n) % 14) + 2 * (from - d .first)) v before) ys
         → Banding from count slots mixing old (put (128 * n + 2 * from) w mid ys) (n + 1)
     banding-kept early rows weighed =
+        let then = 24 * ((d .position + n) % 14) + 2 * (from - d .first) in
         rw e
         (banding-more r (frame .bands) more whole ys as-wide
-        (λ q a b. mixed-lent n v (row * n + 2 * (from - first)) before ys d (rw e at weighed) q a b
-        (earlier-kept delay row first before input n q (row * n + 2 * (from - first) + 2 * (q - from)) early (omega (arith, rows .within)))))
+        (λ q a b. mixed-lent n v then before ys f (rw e at weighed) q a b
+        (earlier-kept d before input n q (then + 2 * (q - from)) early (omega (arith, rows .behind)))))
 
     -- and one whose delayed run came in the frame
-    pub banding-came : delay ≤ n
-        → Weighed side runs n (getD gains n nan) count (part (128 * n + 2 * from) w input) (part (128 * (n - delay) + 2 * from) v input) ys
+    pub banding-came : d .slots ≤ n
+        → Weighed side runs n (getD gains n nan) count (part (128 * n + 2 * from) w input) (part (128 * (n - d .slots) + 2 * from) v input) ys
         → Banding from count slots mixing old (put (128 * n + 2 * from) w mid ys) (n + 1)
     banding-came late weighed =
         rw e
         (banding-more r (frame .bands) more whole ys as-wide
-        (λ q a b. mixed-lent n v (128 * (n - delay) + 2 * from) input ys d (rw e at weighed) q a b
-        (earlier-came delay row first before input n q (128 * (n - delay) + 2 * from + 2 * (q - from)) late (omega arith))))
+        (λ q a b. mixed-lent n v (128 * (n - d .slots) + 2 * from) input ys f (rw e at weighed) q a b
+        (earlier-came d before input n q (128 * (n - d .slots) + 2 * from + 2 * (q - from)) late (omega arith))))

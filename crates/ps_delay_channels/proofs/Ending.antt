@@ -9,50 +9,52 @@ use lib.Dec.{eqb, leb}
 use lib.Ieee.{Float}
 use lib.ListN.{length}
 use Rattle.layout.specs.declared.Layout.{Layout}
-use Rattle.ps_delay_channels.specs.Channels.{leftAfter, rightAfter, longAfter, shortAfter}
+use Rattle.ps_stereo_slots.specs.declared.Timing.{Timing}
+use Rattle.ps_delay_channels.specs.Channels.{leftAfter, rightAfter, longAfter, shortAfter, sideRows, sideAt, matrixThen, decorrelated, pastThen}
 use Rattle.ps_delay_channels.specs.Spans.{Done}
 
-module _ (l : Layout) (borders : List ℕ) (count : ℕ) (input gains rows long short : List Float) (slots : ℕ) (left right : List Float) where
+module _ (l : Layout) (timing : Timing) (input gains rows long short left right : List Float) where
   abbrev pub Outcome : List Float → List Float → List Float → List Float → Type 0
   Outcome new-left new-right long-then short-then =
-      (new-left ≡ leftAfter l borders count input gains rows long short slots left right)
-      × ((new-right ≡ rightAfter l borders count input gains rows long short slots left right)
-      × ((long-then ≡ longAfter l borders count input gains rows long short slots left right)
-      × (short-then ≡ shortAfter l borders count input gains rows long short slots left right)))
+      (new-left ≡ leftAfter l timing input gains rows long short left right)
+      × ((new-right ≡ rightAfter l timing input gains rows long short left right)
+      × ((long-then ≡ longAfter l timing input gains rows long short left right)
+      × (short-then ≡ shortAfter l timing input gains rows long short left right)))
 
-  module _ (within : ℕ) (counted : within ≡ min slots 32) where
+  module _ (within : ℕ) (counted : within ≡ min (timing .slots) 32) where
     pub left-unfit : length left ≢ 128 * within → Outcome left right long short
     unfolding leftAfter rightAfter longAfter shortAfter
     left-unfit h =
-        let no : eqb (length left) (128 * min slots 32) ≡ false = ne-eqb (length left) (128 * min slots 32) (rw (← counted) h) in
+        let no : eqb (length left) (128 * min (timing .slots) 32) ≡ false = ne-eqb (length left) (128 * min (timing .slots) 32) (rw (← counted) h) in
         (rw no, (rw no, (rw no, rw no)))
 
     module _ (left-fits : length left ≡ 128 * within) where
-      left-is : eqb (length left) (128 * min slots 32) ≡ true
-      left-is = eq-eqb (length left) (128 * min slots 32) (rw (← counted) left-fits)
+      left-is : eqb (length left) (128 * min (timing .slots) 32) ≡ true
+      left-is = eq-eqb (length left) (128 * min (timing .slots) 32) (rw (← counted) left-fits)
 
       pub right-unfit : length right ≢ 128 * within → Outcome left right long short
       unfolding leftAfter rightAfter longAfter shortAfter
       right-unfit h =
-          let no : eqb (length right) (128 * min slots 32) ≡ false = ne-eqb (length right) (128 * min slots 32) (rw (← counted) h) in
+          let no : eqb (length right) (128 * min (timing .slots) 32) ≡ false = ne-eqb (length right) (128 * min (timing .slots) 32) (rw (← counted) h) in
           (rw (left-is, no), (rw (left-is, no), (rw (left-is, no), rw (left-is, no))))
 
       module _ (right-fits : length right ≡ 128 * within) where
-        right-is : eqb (length right) (128 * min slots 32) ≡ true
-        right-is = eq-eqb (length right) (128 * min slots 32) (rw (← counted) right-fits)
+        right-is : eqb (length right) (128 * min (timing .slots) 32) ≡ true
+        right-is = eq-eqb (length right) (128 * min (timing .slots) 32) (rw (← counted) right-fits)
 
         pub input-unfit : length input < 128 * within → Outcome left right long short
         unfolding leftAfter rightAfter longAfter shortAfter
         input-unfit h =
-            let no : leb (128 * min slots 32) (length input) ≡ false = lt-leb (128 * min slots 32) (length input) (rw (← counted) h) in
+            let no : leb (128 * min (timing .slots) 32) (length input) ≡ false = lt-leb (128 * min (timing .slots) 32) (length input) (rw (← counted) h) in
             (rw (left-is, right-is, no), (rw (left-is, right-is, no), (rw (left-is, right-is, no), rw (left-is, right-is, no))))
 
+        -- slots that were cut change neither sides nor histories
         pub fit : 128 * within ≤ length input → (new-left new-right long-then short-then : List Float)
-            → Done l borders count input gains rows long short within left right new-left new-right long-then short-then
+            → Done l (record { borders = timing .borders; count = timing .count; slots = within; turn = timing .turn }) input gains rows long short left right new-left new-right long-then short-then
             → Outcome new-left new-right long-then short-then
-        unfolding leftAfter rightAfter longAfter shortAfter
+        unfolding leftAfter rightAfter longAfter shortAfter sideRows sideAt matrixThen decorrelated pastThen
         fit h new-left new-right long-then short-then d =
-            let yes : leb (128 * min slots 32) (length input) ≡ true = le-leb (128 * min slots 32) (length input) (rw (← counted) h) in (
+            let yes : leb (128 * min (timing .slots) 32) (length input) ≡ true = le-leb (128 * min (timing .slots) 32) (length input) (rw (← counted) h) in (
               rw (left-is, right-is, yes, ← counted) (d .left-rows),
               (
                 rw (left-is, right-is, yes, ← counted) (d .right-rows),

@@ -1,131 +1,130 @@
 -- A span's sides are those of its channels: the coefficients that were made are the standard's, and its bands share a stereo band and a delay.
 -- Assumes nothing.
-use mathlib.Core.Path.{_≡_, sym, ap, ap₂, _∙_}
+use mathlib.Core.Path.{_≡_, sym, ap, _∙_, ap₂}
 use mathlib.Core.Bool.{Bool, false}
 use mathlib.Core.List.{List}
 use Prim.Native.Nat.{ℕ, _+_, _-_, _*_, _<_, _≤_}
 use native.Mathlib.Omega.{arith}
-use borrow.Author.Tests.{lt-ltb, le-ltb}
 use lib.Ieee.{Float, nan}
 use lib.ListN.{length, getD}
 use Rattle.complex.specs.declared.Complex.{Complex}
 use Rattle.complex.specs.Operations.{scaled}
 use Rattle.layout.specs.declared.Layout.{Layout}
-use Rattle.layout.specs.Numbers.{channelsOf, allPassOf, shortDelayOf}
+use Rattle.layout.proofs.Bounds.{bounds}
 use Rattle.lists.specs.Part.{part}
 use Rattle.lists.proofs.Parts.{part-at}
-use Rattle.planar.specs.Frame.{matrixAt, qmfAt, qmfBandOf}
+use Rattle.planar.specs.Frame.{matrixAt, qmfAt}
 use Rattle.ps_map.specs.Bands.{parameterMap, bandOf}
+use Rattle.ps_stereo_slots.specs.declared.Timing.{Timing}
 use Rattle.ps_stereo_slots.specs.Coefficients.{Fractions}
 use Rattle.ps_stereo_slots.specs.Slots.{bordersOf, borderMatrix, runsAfter}
 use Rattle.ps_stereo_slots.proofs.Interpolating.{coefficients-made, matrix-standard}
 use Rattle.standard.specs.declared.Matrix.{Matrix}
 use Rattle.standard.specs.Interpolation.{matrixIn}
 use Rattle.standard.specs.Mixing.{leftOf, rightOf}
+use Rattle.ps_delay_channels.specs.declared.rows.Delay.{Delay}
 use Rattle.ps_delay_channels.specs.Rows.{Before, Frame, Banded, earlier, mixedAt}
-use Rattle.ps_delay_channels.specs.Spans.{Framed, Alike, Spanned, channelOf, sideIn, delayedIn, sideFrom}
+use Rattle.ps_delay_channels.specs.Spans.{Framed, Delayed, Alike, Spanned, channelOf, sideIn, sideFrom}
 use Rattle.ps_delay_channels.proofs.Sofar.{banded-none, banded-more, banded-alike}
-use Rattle.layout.proofs.Bounds.{bounds}
 
 abbrev Side : Type 0
 Side = Bool → Matrix → Complex → Complex → Complex
 
 -- ---- one stereo band
 
-module _ (borders : List ℕ) (count : ℕ) (input gains rows fractions : List Float) (shares : Fractions borders count fractions) (slots band : ℕ) (few : slots ≤ 32) (there : band < 34) (old : List Float) where
+module _ (timing : Timing) (input gains rows fractions : List Float) (shares : Fractions (timing .borders) (timing .count) fractions) (band : ℕ) (few : timing .slots ≤ 32) (there : band < 34) (old : List Float) where
   abbrev runs : List Float
-  runs = runsAfter rows fractions borders count band slots old
+  runs = runsAfter rows fractions (timing .borders) (timing .count) band (timing .slots) old
 
-  pub mixed-standard : (side : Side) (delayed : ℕ → ℕ → Complex) (n q : ℕ) → n < slots
-      → mixedAt side runs (part (32 * band) 32 gains) input delayed n q ≡ sideIn borders count input gains rows side band delayed n q
+  mixed-standard : (side : Side) (delayed : ℕ → ℕ → Complex) (n q : ℕ) → n < timing .slots
+      → mixedAt side runs (part (32 * band) 32 gains) input delayed n q ≡ sideIn timing input gains rows side band delayed n q
   unfolding mixedAt sideIn
   mixed-standard side delayed n q h =
-      let matrix : matrixAt runs n ≡ matrixIn (bordersOf borders count) (borderMatrix rows band) n =
-      coefficients-made rows fractions borders count slots band old few .slot there n h ∙ matrix-standard shares (borderMatrix rows band) n (omega arith) in
+      let matrix : matrixAt runs n ≡ matrixIn (bordersOf (timing .borders) (timing .count)) (borderMatrix rows band) n =
+      coefficients-made rows fractions (timing .borders) (timing .count) (timing .slots) band old few .slot there n h
+      ∙ matrix-standard shares (borderMatrix rows band) n (omega arith) in
       ap₂ (λ (m : Matrix) (g : Float). side false m (qmfAt input n q) (scaled (delayed n q) g)) matrix (part-at (32 * band) 32 gains n nan (omega arith))
 
--- ---- where a span stands
+  pub mixed-sides : (delayed : ℕ → ℕ → Complex) {from count : ℕ} {left right new-left new-right : List Float}
+      → Banded from count (timing .slots) (mixedAt leftOf runs (part (32 * band) 32 gains) input delayed) left new-left
+      → Banded from count (timing .slots) (mixedAt rightOf runs (part (32 * band) 32 gains) input delayed) right new-right
+      → Banded from count (timing .slots) (sideIn timing input gains rows leftOf band delayed) left new-left
+      × Banded from count (timing .slots) (sideIn timing input gains rows rightOf band delayed) right new-right
+  mixed-sides delayed a b = (
+    banded-alike a (sideIn timing input gains rows leftOf band delayed) (λ n q h u v. mixed-standard leftOf delayed n q h),
+    banded-alike b (sideIn timing input gains rows rightOf band delayed) (λ n q h u v. mixed-standard rightOf delayed n q h),
+  )
 
-module _ (l : Layout) (k end from : ℕ) (above : allPassOf l ≤ k) (some : k < end) (stands : from ≡ qmfBandOf l k) where
-  pub span-frame : (slots : ℕ) (input left right : List Float) → end ≤ channelsOf l → Framed slots input left right → Frame from (end - k) slots input left right
-  span-frame slots input left right within f =
+-- ---- where a span stands: the channels from k to before `next` of a delay whose first channel is `start`
+
+module _ {l : Layout} {start : ℕ} {d : Delay} {before : List Float} (r : Delayed l start d before) (k next : ℕ) (low : start ≤ k) (some : k < next) (high : next ≤ start + d .bands) where
+  pub span-frame : (slots : ℕ) (input left right : List Float) → Framed slots input left right → Frame (d .first + (k - start)) (next - k) slots input left right
+  span-frame slots input left right f =
       let m = bounds l in
       record { bands = omega arith; few = f .few; input-long = f .input-long; left-long = f .left-long; right-long = f .right-long }
 
-  -- in the rows of 12 channels, or of 29
-  pub span-long : (first : ℕ) (before : List Float) → end ≤ shortDelayOf l → first ≡ qmfBandOf l (allPassOf l) → length before ≡ 336 → Before 14 24 first from (end - k) before
-  span-long first before within e long = let m = bounds l in record { within = omega arith; wide = omega arith; long = omega arith }
+  pub span-before : Before d (d .first + (k - start)) (next - k) before
+  span-before = record { behind = omega arith; within = omega arith; memory = r .memory }
 
-  pub span-short : (first : ℕ) (short : List Float) → shortDelayOf l ≤ k → end ≤ channelsOf l → first ≡ qmfBandOf l (shortDelayOf l) → length short ≡ 58 → Before 1 58 first from (end - k) short
-  span-short first short low within e long = let m = bounds l in record { within = omega arith; wide = omega arith; long = omega arith }
+-- outputs that were written are as long as they were
+pub framed-on : {slots : ℕ} {input left right : List Float} → Framed slots input left right → (new-left new-right : List Float) → length new-left ≡ length left → length new-right ≡ length right
+    → Framed slots input new-left new-right
+framed-on f new-left new-right a b =
+    record { bands = f .bands; few = f .few; input-long = f .input-long; left-long = a ∙ f .left-long; right-long = b ∙ f .right-long }
 
--- ---- its channels
+-- ---- spans side by side: the channels from `start` to before k have come
 
-module _ (borders : List ℕ) (count : ℕ) (input gains rows : List Float) (l : Layout) (before short : List Float) (slots : ℕ) where
-  module _ (map : List ℕ) (k end from band : ℕ) (bands : map ≡ parameterMap l) (above : allPassOf l ≤ k) (some : k < end) (alike : Alike map k end) (own : band ≡ getD map k 0) (stands : from ≡ qmfBandOf l k) where
-    -- the channel of a band of the span
-    channel-from : (q : ℕ) → from ≤ q → k ≤ channelOf l q
-    channel-from q u = let m = bounds l in omega arith
+module _ (timing : Timing) (input gains rows before : List Float) (map : List ℕ) (d : Delay) (start : ℕ) where
+  -- a side's sample, with the stereo band that the map has for its channel
+  abbrev sideBy : Side → ℕ → ℕ → Complex
+  sideBy side n q = sideIn timing input gains rows side (getD map (start + (q - d .first)) 0) (earlier d before input) n q
 
-    channel-to : (q : ℕ) → from ≤ q → q < from + (end - k) → channelOf l q < end
-    channel-to q u v = let m = bounds l in omega arith
+  pub record Spanning (k : ℕ) (left right new-left new-right : List Float) : Type 0 where
+    pub low : start ≤ k
+    pub high : k ≤ start + d .bands
+    pub lefts : Banded (d .first) (k - start) (timing .slots) (sideBy leftOf) left new-left
+    pub rights : Banded (d .first) (k - start) (timing .slots) (sideBy rightOf) right new-right
 
-    side-same : (side : Side) (delayed : ℕ → ℕ → Complex) (n q : ℕ) → from ≤ q → q < from + (end - k)
-        → delayed n q ≡ delayedIn l before short input n q
-        → sideIn borders count input gains rows side band delayed n q ≡ sideFrom borders count input gains rows l before short side n q
-    unfolding sideIn sideFrom
-    side-same side delayed n q u v e =
-        let shared : band ≡ bandOf l (channelOf l q) =
-        own ∙ sym (alike .same (channelOf l q) (channel-from q u) (channel-to q u v)) ∙ ap (λ (t : List ℕ). getD t (channelOf l q) 0) bands in
-        ap₂
-        (λ (b : ℕ) (d : Complex). side false (matrixIn (bordersOf borders count) (borderMatrix rows b) n) (qmfAt input n q) (scaled d (getD gains (32 * b + n) nan)))
-        shared e
-
-    -- both sides of a span whose delayed samples are those of its channels
-    spanned : {left right new-left new-right : List Float} (delayed : ℕ → ℕ → Complex)
-        → ((n q : ℕ) → from ≤ q → q < from + (end - k) → delayed n q ≡ delayedIn l before short input n q)
-        → Banded from (end - k) slots (sideIn borders count input gains rows leftOf band delayed) left new-left
-        → Banded from (end - k) slots (sideIn borders count input gains rows rightOf band delayed) right new-right
-        → Spanned borders count input gains rows l before short slots k end left right new-left new-right
-    spanned delayed same a b =
-        record {
-          left-bands = rw stands at (banded-alike a (sideFrom borders count input gains rows l before short leftOf) (λ n q h u v. side-same leftOf delayed n q u v (same n q u v)));
-          right-bands = rw stands at (banded-alike b (sideFrom borders count input gains rows l before short rightOf) (λ n q h u v. side-same rightOf delayed n q u v (same n q u v)));
-        }
-
-    pub spanned-long : {left right new-left new-right : List Float} (first : ℕ) → end ≤ shortDelayOf l → first ≡ qmfBandOf l (allPassOf l)
-        → Banded from (end - k) slots (sideIn borders count input gains rows leftOf band (earlier 14 24 first before input)) left new-left
-        → Banded from (end - k) slots (sideIn borders count input gains rows rightOf band (earlier 14 24 first before input)) right new-right
-        → Spanned borders count input gains rows l before short slots k end left right new-left new-right
-    unfolding delayedIn
-    spanned-long first within e =
-        spanned (earlier 14 24 first before input)
-        (λ n q u v. rw (e, lt-ltb (channelOf l q) (shortDelayOf l) (omega (arith, channel-to q u v, within))))
-
-    pub spanned-short : {left right new-left new-right : List Float} (first : ℕ) → shortDelayOf l ≤ k → first ≡ qmfBandOf l (shortDelayOf l)
-        → Banded from (end - k) slots (sideIn borders count input gains rows leftOf band (earlier 1 58 first short input)) left new-left
-        → Banded from (end - k) slots (sideIn borders count input gains rows rightOf band (earlier 1 58 first short input)) right new-right
-        → Spanned borders count input gains rows l before short slots k end left right new-left new-right
-    unfolding delayedIn
-    spanned-short first low e =
-        spanned (earlier 1 58 first short input)
-        (λ n q u v. rw (e, le-ltb (channelOf l q) (shortDelayOf l) (omega (arith, channel-from q u, low))))
-
-  -- ---- spans side by side
-  pub spanned-none : (k : ℕ) (left right : List Float) → Spanned borders count input gains rows l before short slots k k left right left right
-  spanned-none k left right =
-      let none : k - k ≡ 0 = omega arith in
-      record { left-bands = rw none (banded-none (qmfBandOf l k) slots _ left); right-bands = rw none (banded-none (qmfBandOf l k) slots _ right) }
-
-  pub spanned-more : {left right mid-left mid-right new-left new-right : List Float} (start k end : ℕ) → allPassOf l ≤ start → start ≤ k → k ≤ end
-      → Spanned borders count input gains rows l before short slots start k left right mid-left mid-right
-      → Spanned borders count input gains rows l before short slots k end mid-left mid-right new-left new-right
-      → Spanned borders count input gains rows l before short slots start end left right new-left new-right
-  spanned-more start k end above h u a b =
-      let m = bounds l in
-      let all : k - start + (end - k) ≡ end - start = omega arith in
-      let next : qmfBandOf l k ≡ qmfBandOf l start + (k - start) = omega arith in
+  pub spanning-none : (left right : List Float) → Spanning start left right left right
+  spanning-none left right =
+      let none : start - start ≡ 0 = omega arith in
       record {
-        left-bands = rw all at (banded-more (a .left-bands) (qmfBandOf l k) (end - k) next (b .left-bands));
-        right-bands = rw all at (banded-more (a .right-bands) (qmfBandOf l k) (end - k) next (b .right-bands));
+        low = omega arith;
+        high = omega arith;
+        lefts = rw none (banded-none (d .first) (timing .slots) _ left);
+        rights = rw none (banded-none (d .first) (timing .slots) _ right);
       }
+
+  module _ (k next band : ℕ) (alike : Alike map k next) (own : band ≡ getD map k 0) (low : start ≤ k) (some : k < next) where
+    one-more : (side : Side) {old mid new : List Float} → Banded (d .first) (k - start) (timing .slots) (sideBy side) old mid
+        → Banded (d .first + (k - start)) (next - k) (timing .slots) (sideIn timing input gains rows side band (earlier d before input)) mid new
+        → Banded (d .first) (next - start) (timing .slots) (sideBy side) old new
+    one-more side a b =
+        let all : k - start + (next - k) ≡ next - start = omega arith in
+        rw all at (banded-more a (d .first + (k - start)) (next - k) (omega arith) (banded-alike b (sideBy side)
+        (λ n q h u v.
+        ap (λ (j : ℕ). sideIn timing input gains rows side j (earlier d before input) n q)
+        (own ∙ sym (alike .same (start + (q - d .first)) (omega arith) (omega arith))))))
+
+    pub spanning-more : {left right mid-left mid-right new-left new-right : List Float} → next ≤ start + d .bands → Spanning k left right mid-left mid-right
+        → Banded (d .first + (k - start)) (next - k) (timing .slots) (sideIn timing input gains rows leftOf band (earlier d before input)) mid-left new-left
+        → Banded (d .first + (k - start)) (next - k) (timing .slots) (sideIn timing input gains rows rightOf band (earlier d before input)) mid-right new-right
+        → Spanning next left right new-left new-right
+    spanning-more high r a b = record { low = omega arith; high = high; lefts = one-more leftOf (r .lefts) a; rights = one-more rightOf (r .rights) b }
+
+  -- and at the end all channels of the delay
+  module _ (l : Layout) (bands : map ≡ parameterMap l) (r : Delayed l start d before) where
+    all-of : (side : Side) {old new : List Float} (k : ℕ) → k ≡ start + d .bands → Banded (d .first) (k - start) (timing .slots) (sideBy side) old new
+        → Banded (d .first) (d .bands) (timing .slots) (sideFrom l timing input gains rows d before side) old new
+    unfolding sideFrom
+    all-of side k e b =
+        let all : k - start ≡ d .bands = omega arith in
+        rw all at (banded-alike b (sideFrom l timing input gains rows d before side)
+        (λ n q h u v.
+        let m = bounds l in
+        let channel : start + (q - d .first) ≡ channelOf l q = omega (arith, r .stands, r .above) in
+        ap (λ (j : ℕ). sideIn timing input gains rows side j (earlier d before input) n q) (ap (λ (t : List ℕ). getD t (start + (q - d .first)) 0) bands ∙ ap (bandOf l) channel)))
+
+    pub spanning-all : {left right new-left new-right : List Float} (k : ℕ) → k ≡ start + d .bands → Spanning k left right new-left new-right
+        → Spanned l timing input gains rows d before left right new-left new-right
+    spanning-all k e s = record { left-bands = all-of leftOf k e (s .lefts); right-bands = all-of rightOf k e (s .rights) }

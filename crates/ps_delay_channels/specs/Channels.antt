@@ -11,21 +11,22 @@ use Rattle.complex.specs.declared.Complex.{Complex}
 use Rattle.complex.specs.Operations.{scaled}
 use Rattle.layout.specs.declared.Layout.{Layout}
 use Rattle.layout.specs.Numbers.{allPassOf, shortDelayOf, splitOf, unsplitFromOf}
-use Rattle.lists.specs.Part.{part}
 use Rattle.lists.specs.Rows as lists
 use Rattle.planar.specs.Frame.{qmfAt, qmfRows, qmfBandOf}
-use Rattle.planar.specs.Window.{imageOf, historyOf}
+use Rattle.planar.specs.Cells.{sideBySide}
+use Rattle.planar.specs.Rings.{ringCell, longPast, shortPast}
 use Rattle.ps_map.specs.Bands.{bandOf, conjugatedOf}
+use Rattle.ps_stereo_slots.specs.declared.Timing.{Timing}
 use Rattle.ps_stereo_slots.specs.Slots.{bordersOf, borderMatrix}
 use Rattle.standard.specs.declared.Matrix.{Matrix}
 use Rattle.standard.specs.Channel.{back, pastAt}
 use Rattle.standard.specs.Interpolation.{matrixIn}
 use Rattle.standard.specs.Mixing.{leftOf, rightOf}
 
-module _ (l : Layout) (borders : List ℕ) (count : ℕ) (input gains rows long short : List Float) where
+module _ (l : Layout) (timing : Timing) (input gains rows long short : List Float) where
   -- what came into channel k before the frame: its last 14 slots, or the last one
   abbrev pub pastOf : ℕ → List Complex
-  pastOf k = cond (ltb k (shortDelayOf l)) (historyOf 14 14 (part (28 * (k - allPassOf l)) 28 long)) (historyOf 1 1 (part (2 * (k - shortDelayOf l)) 2 short))
+  pastOf k = cond (ltb k (shortDelayOf l)) (longPast (timing .turn) long (k - allPassOf l)) (shortPast short (k - shortDelayOf l))
 
   -- and after n slots of the frame
   unfoldable pub pastThen : ℕ → ℕ → List Complex
@@ -37,7 +38,7 @@ module _ (l : Layout) (borders : List ℕ) (count : ℕ) (input gains rows long 
 
   -- band b's coefficients in slot n
   unfoldable pub matrixThen : ℕ → ℕ → Matrix
-  matrixThen b n = matrixIn (bordersOf borders count) (borderMatrix rows b) n
+  matrixThen b n = matrixIn (bordersOf (timing .borders) (timing .count)) (borderMatrix rows b) n
 
   -- one side's sample n of channel k
   unfoldable pub sideAt : (Bool → Matrix → Complex → Complex → Complex) → ℕ → ℕ → Complex
@@ -49,18 +50,22 @@ module _ (l : Layout) (borders : List ℕ) (count : ℕ) (input gains rows long 
       qmfRows slots (λ n q. cond (ltb q (qmfBandOf l (allPassOf l))) (qmfAt old n q) (sideAt side n (q + unsplitFromOf l - splitOf l)))
 
   -- after a frame of at most 32 slots, where the outputs have exactly its rows and the input has them too; nothing changes where they do not
-  module _ (slots : ℕ) (left right : List Float) where
+  abbrev slots : ℕ
+  slots = min (timing .slots) 32
+
+  module _ (left right : List Float) where
     abbrev pub fits : Bool
-    fits = eqb (length left) (128 * min slots 32) && eqb (length right) (128 * min slots 32) && leb (128 * min slots 32) (length input)
+    fits = eqb (length left) (128 * slots) && eqb (length right) (128 * slots) && leb (128 * slots) (length input)
 
     unfoldable pub leftAfter : List Float
-    leftAfter = cond fits (sideRows leftOf (min slots 32) left) left
+    leftAfter = cond fits (sideRows leftOf slots left) left
 
     unfoldable pub rightAfter : List Float
-    rightAfter = cond fits (sideRows rightOf (min slots 32) right) right
+    rightAfter = cond fits (sideRows rightOf slots right) right
 
+    -- the rings go on where they were
     unfoldable pub longAfter : List Float
-    longAfter = cond fits (lists.rows (λ j. imageOf 14 (pastThen (allPassOf l + j) (min slots 32))) 12) long
+    longAfter = cond fits (lists.rows (λ r. sideBySide (λ j. ringCell 14 (timing .turn + slots) (pastThen (allPassOf l + j) slots) r) 12) 14) long
 
     unfoldable pub shortAfter : List Float
-    shortAfter = cond fits (lists.rows (λ j. imageOf 1 (pastThen (shortDelayOf l + j) (min slots 32))) 29) short
+    shortAfter = cond fits (sideBySide (λ j. back 0 (pastThen (shortDelayOf l + j) slots)) 29) short

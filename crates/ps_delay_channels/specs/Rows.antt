@@ -1,45 +1,48 @@
 -- What the crate's functions over rows ask and answer. Assumes nothing.
-use Prim.Native.Nat.{ℕ, _+_, _-_, _*_, _<_, _≤_}
+use Prim.Native.Nat.{ℕ, _+_, _-_, _*_, _%_, _<_, _≤_}
 use mathlib.Core.Bool.{Bool, false, cond}
 use mathlib.Core.List.{List}
-use mathlib.Core.Logic.{_≢_}
 use mathlib.Core.Path.{_≡_}
 use lib.Dec.{ltb}
 use lib.Ieee.{Float, nan}
 use lib.ListN.{length, getD}
 use Rattle.complex.specs.declared.Complex.{Complex}
 use Rattle.complex.specs.Operations.{scaled}
-use Rattle.lists.specs.Part.{part}
-use Rattle.lists.specs.Rows.{rows}
-use Rattle.planar.specs.Cells.{cell, planar}
+use Rattle.planar.specs.Cells.{cell}
 use Rattle.planar.specs.Frame.{qmfAt, matrixAt}
 use Rattle.standard.specs.declared.Matrix.{Matrix}
+use Rattle.ps_delay_channels.specs.declared.rows.Delay.{Delay}
 
 -- ---- delays by rows
 
--- rows kept from before the frame: for each of `delay` slots, the oldest first, `row` numbers, QMF bands from `first` on side by side
-pub record Before (delay row first from count : ℕ) (before : List Float) : Type 0 where
-  pub within : first ≤ from
-  pub wide : 2 * (from + count - first) ≤ row
-  pub long : delay * row ≤ length before
+-- both delays: of 14 slots in a ring of 14 rows, and of one slot in one row
+abbrev pub longDelay : ℕ → Delay
+longDelay position = record { slots = 14; first = 23; bands = 12; position = position }
 
--- what came `delay` slots before slot n of QMF band q
-unfoldable pub earlier : ℕ → ℕ → ℕ → List Float → List Float → ℕ → ℕ → Complex
-earlier delay row first before input n q = cond (ltb n delay) (cell 1 before (row * n + 2 * (q - first))) (qmfAt input (n - delay) q)
+abbrev pub shortDelay : Delay
+shortDelay = record { slots = 1; first = 35; bands = 29; position = 0 }
 
--- column j of 14 rows of 12 is a run, and the other columns are as they were
-pub record Laid (run : ℕ → Complex) (j : ℕ) (old new : List Float) : Type 0 where
-  pub own : (i : ℕ) → i < 14 → cell 1 new (24 * i + 2 * j) ≡ run i
-  pub others : (i c : ℕ) → i < 14 → c < 12 → c ≢ j → cell 1 new (24 * i + 2 * c) ≡ cell 1 old (24 * i + 2 * c)
+-- the rows of a delay's memory, 24 numbers apart: slot n of a frame reads the one at position + n modulo 14
+pub record Memory (d : Delay) (before : List Float) : Type 0 where
+  pub inside : d .position < 14
+  pub room : (n : ℕ) → n < d .slots → 24 * ((d .position + n) % 14) + 2 * d .bands ≤ length before
 
--- the memory of 12 channels that are delays of 14 slots, in such rows
-pub record BySlot (long before : List Float) : Type 0 where
-  pub all : length before ≡ 336
-  pub at : (i j : ℕ) → i < 14 → j < 12 → cell 1 before (24 * i + 2 * j) ≡ cell 14 (part (28 * j) 28 long) i
+-- with QMF bands from `from` on
+pub record Before (d : Delay) (from count : ℕ) (before : List Float) : Type 0 where
+  pub behind : d .first ≤ from
+  pub within : from + count ≤ d .first + d .bands
+  pub memory : Memory d before
 
--- the memory after a frame: for each of `channels` bands from `first` on a run of what came in the last `delay` slots
-unfoldable pub runsOf : ℕ → ℕ → ℕ → ℕ → List Float → List Float → ℕ → List Float
-runsOf delay row first channels before input slots = rows (λ j. planar delay (λ i. earlier delay row first before input (slots + i) (first + j))) channels
+-- what came before slot n of QMF band q by the delay
+unfoldable pub earlier : Delay → List Float → List Float → ℕ → ℕ → Complex
+earlier d before input n q = cond (ltb n (d .slots)) (cell 1 before (24 * ((d .position + n) % 14) + 2 * (q - d .first))) (qmfAt input (n - d .slots) q)
+
+-- the memories after a frame: what its next slots would read
+pub record KeptLong (position slots : ℕ) (input long long-then : List Float) : Type 0 where
+  pub at : (i j : ℕ) → i < 14 → j < 12 → cell 1 long-then (24 * ((position + (slots + i)) % 14) + 2 * j) ≡ earlier (longDelay position) long input (slots + i) (23 + j)
+
+pub record KeptShort (slots : ℕ) (input short short-then : List Float) : Type 0 where
+  pub at : (j : ℕ) → j < 29 → cell 1 short-then (2 * j) ≡ earlier shortDelay short input slots (35 + j)
 
 -- ---- mixing by rows
 

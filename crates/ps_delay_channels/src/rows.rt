@@ -1,9 +1,25 @@
 // QMF bands side by side, slot after slot: a slot's coefficients stand still while its bands go by. Private to the crate.
 ghost use mathlib.Core.Path.{_≡_};
-ghost use Prim.Native.Nat.{_<_, _≤_};
+ghost use Prim.Native.Nat.{_<_};
 ghost use lib.ListN.{length};
 ghost use Rattle.standard.specs.Mixing.{leftOf, rightOf};
 ghost use Rattle.ps_delay_channels.specs.Rows.{Before, Frame, Side, Weighed, Banded, earlier, mixedAt};
+
+// A delay of some slots, of QMF bands from `first` on: its memory is a ring of rows, of which the one at `position` is the oldest.
+pub struct Delay {
+    pub slots: usize,
+    pub first: usize,
+    pub bands: usize,
+    pub position: usize,
+}
+
+// QMF bands from `from` on that share a stereo band and a delay.
+pub struct Span {
+    pub band: usize,
+    pub from: usize,
+    pub count: usize,
+    pub delay: Delay,
+}
 
 // One slot of `count` bands, into both sides.
 fn weigh(
@@ -41,35 +57,34 @@ fn weigh(
     }
 }
 
-// QMF bands of one stereo band over a frame, each beside what came `delay` slots before: in the first slots that stands in rows from before the frame.
+// A span over a frame, each band beside what came before by its delay: in the first slots that stands in the memory's rows, which are 24 numbers apart.
 pub fn bands(
+    span: Span,
+    slots: usize,
     runs: &[f64],
     gains: &[f64],
     input: &[f64],
-    from: usize,
-    count: usize,
     before: &[f64],
-    row: usize,
-    first: usize,
-    delay: usize,
-    slots: usize,
     left: &mut [f64],
     right: &mut [f64],
 )
     requires { ⌜ (length (now runs) ≡ 256) × (length (now gains) ≡ 32) ⌝ }
-    requires { ⌜ Frame from count slots (now input) (now left) (now right) × Before delay row first from count (now before) ⌝ }
-    requires { ⌜ row ≤ 128 ⌝ }
-    ensures left { λ _. ⌜ Banded from count slots (mixedAt leftOf (now (runs .entry)) (now (gains .entry)) (now (input .entry))
-        (earlier delay row first (now (before .entry)) (now (input .entry)))) (now (left .entry)) (now (left .exit)) ⌝ }
-    ensures right { λ _. ⌜ Banded from count slots (mixedAt rightOf (now (runs .entry)) (now (gains .entry)) (now (input .entry))
-        (earlier delay row first (now (before .entry)) (now (input .entry)))) (now (right .entry)) (now (right .exit)) ⌝ }
+    requires { ⌜ Frame (span .from) (span .count) slots (now input) (now left) (now right) × Before (span .delay) (span .from) (span .count) (now before) ⌝ }
+    ensures left { λ _. ⌜ Banded (span .from) (span .count) slots (mixedAt leftOf (now (runs .entry)) (now (gains .entry)) (now (input .entry))
+        (earlier (span .delay) (now (before .entry)) (now (input .entry)))) (now (left .entry)) (now (left .exit)) ⌝ }
+    ensures right { λ _. ⌜ Banded (span .from) (span .count) slots (mixedAt rightOf (now (runs .entry)) (now (gains .entry)) (now (input .entry))
+        (earlier (span .delay) (now (before .entry)) (now (input .entry)))) (now (right .entry)) (now (right .exit)) ⌝ }
 {
+    let delay = span.delay;
+    let from = span.from;
+    let count = span.count;
     let wide = 2 * count;
+    let column = 2 * (from - delay.first);
     for n in 0..slots {
         let at = 128 * n + 2 * from;
         let factor = gains[n];
-        if n < delay {
-            let then = row * n + 2 * (from - first);
+        if n < delay.slots {
+            let then = 24 * ((delay.position + n) % 14) + column;
             weigh(
                 runs,
                 n,
@@ -81,7 +96,7 @@ pub fn bands(
                 &mut right[at..at + wide],
             );
         } else {
-            let then = 128 * (n - delay) + 2 * from;
+            let then = 128 * (n - delay.slots) + 2 * from;
             weigh(
                 runs,
                 n,

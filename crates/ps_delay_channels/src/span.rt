@@ -1,14 +1,45 @@
 // Channels side by side that share a stereo band and a delay, mixed at once. Private to the crate.
 use super::rows;
+use super::rows::Delay;
+use super::rows::Span;
+use layout::Kind;
 use layout::Layout;
+use ps_stereo_slots::Timing;
 ghost use mathlib.Core.Path.{_≡_};
 ghost use Prim.Native.Nat.{_<_, _≤_};
 ghost use lib.ListN.{length};
-ghost use Rattle.layout.specs.Numbers.{allPassOf, channelsOf};
+ghost use Rattle.layout.specs.Numbers.{kindOf};
 ghost use Rattle.standard.specs.Mixing.{leftOf, rightOf};
 ghost use Rattle.ps_stereo_slots.specs.Coefficients.{Fractions};
 ghost use Rattle.ps_delay_channels.specs.Rows.{Before, Frame, Banded, earlier};
-ghost use Rattle.ps_delay_channels.specs.Spans.{Lent, Framed, Alike, Spanned, sideIn};
+ghost use Rattle.ps_delay_channels.specs.Spans.{Framed, Delayed, Alike, Spanned, delayOf, sideIn};
+
+// What the spans of a frame have in common: the layout, when coefficients change, and the oldest row of the ring.
+pub struct Common {
+    pub layout: Layout,
+    pub timing: Timing,
+    pub position: usize,
+}
+
+// The delay of channel k, which is no all-pass channel. Its QMF bands are those of either layout: 23 to 34, or 35 to 63.
+fn delay_at(layout: Layout, k: usize, position: usize) -> Delay
+    ensures { λ r. ⌜ r ≡ delayOf position (kindOf layout k) ⌝ }
+{
+    match layout.kind(k) {
+        Kind::Short => Delay {
+            slots: 1,
+            first: 35,
+            bands: 29,
+            position: 0,
+        },
+        Kind::AllPass | Kind::Long => Delay {
+            slots: 14,
+            first: 23,
+            bands: 12,
+            position: position,
+        },
+    }
+}
 
 // The first channel behind k that is of another stereo band, or `end`.
 fn span_end(map: &[u8; 91], k: usize, end: usize) -> usize
@@ -26,125 +57,91 @@ fn span_end(map: &[u8; 91], k: usize, end: usize) -> usize
     next
 }
 
-// Channels of one stereo band and of one delay, from their QMF bands: the band's coefficients slot by slot, and both sides.
+// A span: its band's coefficients slot by slot, and both sides.
 fn mix_span(
-    borders: [u8; limits::ENVELOPES],
-    count: usize,
+    span: Span,
+    timing: Timing,
     fractions: &[f64; limits::FRACTIONS],
     input: &[f64],
     gains: &[f64],
     rows: &[f64; limits::MATRICES],
-    band: usize,
-    from: usize,
-    channels: usize,
     before: &[f64],
-    row: usize,
-    first: usize,
-    delay: usize,
-    slots: usize,
     runs: &mut [f64; 256],
     left: &mut [f64],
     right: &mut [f64],
 )
-    requires { ⌜ Fractions borders count (now fractions) × ((length (now gains) ≡ 1088) × (band < 34)) ⌝ }
-    requires { ⌜ Frame from channels slots (now input) (now left) (now right) × Before delay row first from channels (now before) ⌝ }
-    requires { ⌜ row ≤ 128 ⌝ }
-    ensures left { λ _. ⌜ Banded from channels slots (sideIn borders count (now (input .entry)) (now (gains .entry)) (now (rows .entry)) leftOf band
-        (earlier delay row first (now (before .entry)) (now (input .entry)))) (now (left .entry)) (now (left .exit)) ⌝ }
-    ensures right { λ _. ⌜ Banded from channels slots (sideIn borders count (now (input .entry)) (now (gains .entry)) (now (rows .entry)) rightOf band
-        (earlier delay row first (now (before .entry)) (now (input .entry)))) (now (right .entry)) (now (right .exit)) ⌝ }
+    requires { ⌜ Fractions (timing .borders) (timing .count) (now fractions) × ((length (now gains) ≡ 1088) × (span .band < 34)) ⌝ }
+    requires { ⌜ Frame (span .from) (span .count) (timing .slots) (now input) (now left) (now right) × Before (span .delay) (span .from) (span .count) (now before) ⌝ }
+    ensures left { λ _. ⌜ Banded (span .from) (span .count) (timing .slots) (sideIn timing (now (input .entry)) (now (gains .entry)) (now (rows .entry)) leftOf (span .band)
+        (earlier (span .delay) (now (before .entry)) (now (input .entry)))) (now (left .entry)) (now (left .exit)) ⌝ }
+    ensures right { λ _. ⌜ Banded (span .from) (span .count) (timing .slots) (sideIn timing (now (input .entry)) (now (gains .entry)) (now (rows .entry)) rightOf (span .band)
+        (earlier (span .delay) (now (before .entry)) (now (input .entry)))) (now (right .entry)) (now (right .exit)) ⌝ }
 {
-    ps_stereo_slots::interpolate(rows, fractions, borders, count, band, slots, runs);
+    let borders = timing.borders;
+    let slots = timing.slots;
+    let band = span.band;
+    ps_stereo_slots::interpolate(rows, fractions, borders, timing.count, band, slots, runs);
     let at = 32 * band;
     rows::bands(
+        span,
+        slots,
         runs,
         &gains[at..at + 32],
         input,
-        from,
-        channels,
         before,
-        row,
-        first,
-        delay,
-        slots,
         left,
         right,
     );
 }
 
-// The channels from k on that share its stereo band and its delay. Answers the channel behind them.
-pub fn span(
-    layout: Layout,
-    k: usize,
-    map: &[u8; 91],
-    borders: [u8; limits::ENVELOPES],
-    count: usize,
+// All channels of the delay that `start` is the first channel of, in rising order. The lists that a span fills are lent, so that none is built inside the
+// loop.
+pub fn each(
+    common: Common,
+    start: usize,
     fractions: &[f64; limits::FRACTIONS],
     input: &[f64],
-    gains: &[f64; 1088],
+    gains: &[f64],
     rows: &[f64; limits::MATRICES],
-    before: &[f64; 336],
-    short: &[f64; 58],
-    slots: usize,
+    before: &[f64],
     runs: &mut [f64; 256],
     left: &mut [f64],
     right: &mut [f64],
-) -> usize
-    requires { ⌜ (allPassOf layout ≤ k) × (k < channelsOf layout) ⌝ }
-    requires { ⌜ Lent layout borders count (now map) (now fractions) × Framed slots (now input) (now left) (now right) ⌝ }
-    ensures { λ r. ⌜ ((k < r) × (r ≤ channelsOf layout)) ×
-        Spanned borders count (now (input .entry)) (now (gains .entry)) (now (rows .entry)) layout (now (before .entry)) (now (short .entry)) slots k r
-        (now (left .entry)) (now (right .entry)) (now (left .exit)) (now (right .exit)) ⌝ }
+)
+    requires { ⌜ Fractions (common .timing .borders) (common .timing .count) (now fractions) × (length (now gains) ≡ 1088) ⌝ }
+    requires { ⌜ Framed (common .timing .slots) (now input) (now left) (now right)
+        × Delayed (common .layout) start (delayOf (common .position) (kindOf (common .layout) start)) (now before) ⌝ }
+    ensures { λ _. ⌜ Spanned (common .layout) (common .timing) (now (input .entry)) (now (gains .entry)) (now (rows .entry))
+        (delayOf (common .position) (kindOf (common .layout) start)) (now (before .entry)) (now (left .entry)) (now (right .entry)) (now (left .exit)) (now (right .exit)) ⌝ }
 {
-    let band = limits::wide(map[k]);
-    let split = layout.split();
-    let unsplit = layout.unsplit_from();
-    let from = k + split - unsplit;
-    let shorts = layout.short_delay();
-    if k < shorts {
-        let end = span_end(map, k, shorts);
-        let first = layout.all_pass() + split - unsplit;
+    let layout = common.layout;
+    let timing = common.timing;
+    let map = ps_map::parameter_map(layout);
+    let delay = delay_at(layout, start, common.position);
+    let end = start + delay.bands;
+    let mut k = start;
+    while k < end {
+        let next = span_end(&map, k, end);
+        let band = limits::wide(map[k]);
+        let from = delay.first + (k - start);
+        let span = Span {
+            band: band,
+            from: from,
+            count: next - k,
+            delay: delay,
+        };
         mix_span(
-            borders,
-            count,
+            span,
+            timing,
             fractions,
             input,
             gains,
             rows,
-            band,
-            from,
-            end - k,
             before,
-            24,
-            first,
-            14,
-            slots,
             runs,
             left,
             right,
         );
-        return end;
+        k = next;
     }
-    let end = span_end(map, k, layout.channels());
-    let first = shorts + split - unsplit;
-    mix_span(
-        borders,
-        count,
-        fractions,
-        input,
-        gains,
-        rows,
-        band,
-        from,
-        end - k,
-        short,
-        58,
-        first,
-        1,
-        slots,
-        runs,
-        left,
-        right,
-    );
-    end
 }

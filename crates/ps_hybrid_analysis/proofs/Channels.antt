@@ -26,7 +26,7 @@ use Rattle.ps_hybrid_analysis.specs.Stages.{Written}
 pub width : (a w : ℕ) → a + w - a ≡ w
 width a w = add-sub-cancel-left a w
 
-pub lent-long : (c w : ℕ) (xs : List Float) → w ≡ 64 → length xs ≡ 3200 → c < 50 → length (part (64 * c) w xs) ≡ 64
+pub lent-long : (c w : ℕ) (xs : List Float) → w ≡ 64 → length xs ≡ 2048 → c < 32 → length (part (64 * c) w xs) ≡ 64
 lent-long c w xs e long room = rw e (part-length (64 * c) 64 xs (omega arith))
 
 pub written-none : (slots from : ℕ) (h : ℕ → ℕ → Complex) (xs : List Float) → Written slots from from h xs xs
@@ -34,7 +34,7 @@ written-none slots from h xs =
     record { long = refl; inside = λ k n u v w. absurd (omega arith); below = λ k n u v. refl; above = λ k n u v w. refl; behind = λ k n u v w. refl }
 
 -- ---- one channel's run
-module _ (slots c : ℕ) (h : ℕ → ℕ → Complex) (old ys : List Float) (long : length old ≡ 3200) (room : c < 50) (few : slots ≤ 32)
+module _ (slots c : ℕ) (h : ℕ → ℕ → Complex) (old ys : List Float) (long : length old ≡ 2048) (room : c < 32) (few : slots ≤ 32)
     (is : ys ≡ planar 32 (overwritten slots (h c) (cell 32 (part (64 * c) 64 old)))) where
   row : length ys ≡ 64
   row = ap length is ∙ planar-length 32 (overwritten slots (h c) (cell 32 (part (64 * c) 64 old)))
@@ -69,7 +69,7 @@ module _ (slots c : ℕ) (h : ℕ → ℕ → Complex) (old ys : List Float) (lo
           here k n same w ∙ rw (le-ltb n slots v)
 
 -- the run as it is lent and comes back
-pub written-lent : (slots c w : ℕ) (h : ℕ → ℕ → Complex) (old ys : List Float) → w ≡ 64 → length old ≡ 3200 → c < 50 → slots ≤ 32
+pub written-lent : (slots c w : ℕ) (h : ℕ → ℕ → Complex) (old ys : List Float) → w ≡ 64 → length old ≡ 2048 → c < 32 → slots ≤ 32
     → ys ≡ planar 32 (overwritten slots (h c) (cell 32 (part (64 * c) w old))) → Written slots c (c + 1) h old (put (64 * c) w old ys)
 written-lent slots c w h old ys e long room few is = rw e (written-row slots c h old ys long room few (rw e at is))
 
@@ -106,7 +106,7 @@ module _ {slots from to : ℕ} {h : ℕ → ℕ → Complex} {old mid : List Flo
       record { long = r .long; inside = λ k n a b d. r .inside k n a b d ∙ e k n a b d; below = r .below; above = r .above; behind = r .behind }
 
 -- the same run, to which a filter's answer is added
-pub written-added : (slots c w : ℕ) (y z : ℕ → Complex) (old ys : List Float) → w ≡ 64 → length old ≡ 3200 → c < 50 → slots ≤ 32
+pub written-added : (slots c w : ℕ) (y z : ℕ → Complex) (old ys : List Float) → w ≡ 64 → length old ≡ 2048 → c < 32 → slots ≤ 32
     → ys ≡ planar 32 (overwritten slots (λ n. sum (cell 32 (part (64 * c) w old) n) (y n)) (cell 32 (part (64 * c) w old)))
     → ((n : ℕ) → y n ≡ z n) → Written slots c (c + 1) (λ k n. sum (sampleAt old n k) (z n)) old (put (64 * c) w old ys)
 written-added slots c w y z old ys e long room few is same =
@@ -115,11 +115,11 @@ written-added slots c w y z old ys e long room few is same =
     (λ k n a b d. ap (λ (v : Complex). sum (sampleAt old n k) v) (same n)))
 
 -- ---- all of them, as rows
-module _ {slots to : ℕ} {h : ℕ → ℕ → Complex} {old new : List Float} (r : Written slots 0 to h old new) (long : length old ≡ 3200) where
-  run-long : (xs : List Float) (k : ℕ) → k < 50 → length xs ≡ 3200 → length (part (64 * k) 64 xs) ≡ 32 + 32
+module _ {slots to : ℕ} {h : ℕ → ℕ → Complex} {old new : List Float} (r : Written slots 0 to h old new) (long : length old ≡ 2048) where
+  run-long : (xs : List Float) (k : ℕ) → k < 32 → length xs ≡ 2048 → length (part (64 * k) 64 xs) ≡ 32 + 32
   run-long xs k u l = part-length (64 * k) 64 xs (omega arith)
 
-  written : (k : ℕ) → k < 50 → (t : Bool) → ltb k to ≡ t
+  written : (k : ℕ) → k < 32 → (t : Bool) → ltb k to ≡ t
       → part (64 * k) 64 new ≡ cond t (planar 32 (overwritten slots (h k) (λ n. sampleAt old n k))) (part (64 * k) 64 old)
   written k u true e =
       planar-is 32 (part (64 * k) 64 new) (overwritten slots (h k) (λ n. sampleAt old n k)) (run-long new k u (r .long ∙ long)) (λ n v. at n v (ltb n slots) refl)
@@ -131,10 +131,10 @@ module _ {slots to : ℕ} {h : ℕ → ℕ → Complex} {old new : List Float} (
       planar-is 32 (part (64 * k) 64 new) (λ n. sampleAt old n k) (run-long new k u (r .long ∙ long)) (λ n v. r .above k n (ltb-false k to e) u v)
       ∙ sym (planar-is 32 (part (64 * k) 64 old) (λ n. sampleAt old n k) (run-long old k u long) (λ n v. refl))
 
-  pub written-rows : new ≡ rows (λ k. cond (ltb k to) (planar 32 (overwritten slots (h k) (λ n. sampleAt old n k))) (part (64 * k) 64 old)) 50
+  pub written-rows : new ≡ rows (λ k. cond (ltb k to) (planar 32 (overwritten slots (h k) (λ n. sampleAt old n k))) (part (64 * k) 64 old)) 32
   written-rows =
-      sym (rows-whole 64 50 new (r .long ∙ long))
-      ∙ rows-same (λ k. part (k * 64) 64 new) (λ k. cond (ltb k to) (planar 32 (overwritten slots (h k) (λ n. sampleAt old n k))) (part (64 * k) 64 old)) 50
+      sym (rows-whole 64 32 new (r .long ∙ long))
+      ∙ rows-same (λ k. part (k * 64) 64 new) (λ k. cond (ltb k to) (planar 32 (overwritten slots (h k) (λ n. sampleAt old n k))) (part (64 * k) 64 old)) 32
       (λ k u. ap (λ (a : ℕ). part a 64 new) (mul-comm k 64) ∙ written k u (ltb k to) refl)
 
 -- ---- a loop over channels

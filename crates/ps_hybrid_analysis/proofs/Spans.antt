@@ -6,11 +6,11 @@ use native.Mathlib.Nat.{mul-le-mul}
 use native.Mathlib.Omega.{arith}
 use Rattle.layout.specs.declared.Layout.{Layout}
 use Rattle.layout.specs.declared.Layout.the-variants.{Bands20, Bands34}
-use Rattle.layout.specs.Numbers.{splitOf, unsplitFromOf, allPassOf}
-use Rattle.layout.proofs.Bounds.{bounds}
+use Rattle.layout.specs.Numbers.{splitOf}
 use Rattle.decimals.specs.declared.Prototype.{Prototype}
 use Rattle.decimals.specs.declared.Prototype.the-variants.{EighthsOfBand0, Halves, Twelfths, EighthsOfBand1, Quarters}
 use Rattle.standard.specs.Hybrid.{prototypeFor, filtersOf, channelFor, firstChannelOf}
+use Rattle.standard.proofs.Spans.{spans}
 
 -- a product of two small factors
 pub product-most : (a b : ℕ) → a ≤ 44 → b ≤ 54 → a * b ≤ 2376
@@ -39,10 +39,6 @@ filters-most Halves = omega arith
 filters-most Twelfths = omega arith
 filters-most EighthsOfBand1 = omega arith
 filters-most Quarters = omega arith
-
--- ---- the numbers of a layout
-pub unsplit-fits : (l : Layout) → (splitOf l ≤ 5) × ((unsplitFromOf l ≤ allPassOf l) × ((allPassOf l ≤ 50) × (allPassOf l + splitOf l ≤ unsplitFromOf l + 64)))
-unsplit-fits l = let b = bounds l in (omega arith, (omega arith, (omega arith, omega arith)))
 
 -- the channel of a filter of the layout with 34 bands
 pub channel-of-34 : (p q : ℕ) → p < 5 → channelFor Bands34 p q ≡ firstChannelOf Bands34 p + q
@@ -79,3 +75,7 @@ channel-inside Bands34 (suc (suc zero)) q h u = record { from = omega arith; to 
 channel-inside Bands34 (suc (suc (suc zero))) q h u = record { from = omega arith; to = omega arith }
 channel-inside Bands34 (suc (suc (suc (suc zero)))) q h u = record { from = omega arith; to = omega arith }
 channel-inside Bands34 (suc (suc (suc (suc (suc p))))) q h u = absurd (omega arith)
+
+-- so it is one of 32
+pub channel-few : (l : Layout) (p q r : ℕ) → p < splitOf l → q < filtersOf (prototypeFor l p) → r ≡ channelFor l p q → (r ≡ channelFor l p q) × (r < 32)
+channel-few l p q r h u e = (e, omega (arith, channel-inside l p q h u .to, spans l (suc p) .few))

@@ -1,4 +1,4 @@
--- The hybrid channels of a split band are the joined answers of its filters, those of an unsplit band its own slots. Assumes nothing.
+-- The hybrid channels of a split band are the joined answers of its filters. Assumes nothing.
 use mathlib.Core.Path.{_≡_, refl, sym, ap, ap₂, _∙_}
 use mathlib.Core.Bool.{Bool, true, false, cond}
 use mathlib.Core.List.{List}
@@ -30,7 +30,7 @@ module _ (l : Layout) (p : ℕ) (x : ℕ → Complex) {slots from to : ℕ} {old
 
   pub joined-more : (q : ℕ) (t : Prototype) {mid new : List Float} → t ≡ prototypeFor l p → Written slots from to (λ k n. joinedTo l p x n k q) old mid
       → Written slots (channelFor l p q) (channelFor l p q + 1) (λ k n. sum (sampleAt mid n k) (filtered t q x n)) mid new
-      → slots ≤ 32 → to ≤ 50 → from ≤ channelFor l p q → channelFor l p q < to → Written slots from to (λ k n. joinedTo l p x n k (q + 1)) old new
+      → slots ≤ 32 → to ≤ 32 → from ≤ channelFor l p q → channelFor l p q < to → Written slots from to (λ k n. joinedTo l p x n k (q + 1)) old new
   unfolding joinedTo
   joined-more q t {mid} {new} g r s few most u v =
       record {
@@ -91,10 +91,6 @@ module _ (l : Layout) (x : ℕ → ℕ → Complex) (n k : ℕ) where
   hybrid-split p h u v w =
       rw (lt-ltb k (unsplitFromOf l) w)
       (ap (λ (b : ℕ). joinedTo l b (x b) n k (filtersOf (prototypeFor l b))) (sym (band-of l k p h u v)))
-
-  pub hybrid-passed : unsplitFromOf l ≤ k → x (k + splitOf l - unsplitFromOf l) (n + 6) ≡ hybrid l x n k
-  unfolding hybrid
-  hybrid-passed u = rw (le-ltb k (unsplitFromOf l) u)
 
 -- ---- a split band more
 pub split-on : (l : Layout) (x : ℕ → ℕ → Complex) (p : ℕ) (y : ℕ → Complex) {slots : ℕ} {old mid new : List Float}

@@ -5,7 +5,6 @@ use mathlib.Core.List.{List}
 use Prim.Native.Nat.{ℕ, zero, suc, _+_, _-_, _*_, _<_, _≤_}
 use native.Mathlib.Omega.{arith}
 use lib.Ieee.{Float, nan, binary64, mul, ofBits}
-use lib.IntN.{ℤ}
 use lib.ListN.{length, getD}
 use Rattle.complex.specs.declared.Complex.{Complex}
 use Rattle.complex.specs.Operations.{sum, product}
@@ -16,12 +15,11 @@ use Rattle.fixed.specs.Real.{pairAt}
 use Rattle.lists.proofs.Places.{any-default}
 use Rattle.planar.specs.Cells.{cell, planar}
 use Rattle.planar.proofs.Cells.{planar-at}
-use Rattle.root_table.specs.Values.{root8, root16, root24}
 use Rattle.standard.specs.Numbers as numbers
 use Rattle.standard.specs.Numbers.{_⊗_}
 use Rattle.standard.specs.Hybrid.{modulation, typeA, tap, tapsTo, filtered}
 use Rattle.standard.proofs.Literals.{zero-is}
-use Rattle.ps_hybrid_analysis.specs.Stages.{Waves, rootsOf, orderOf, turnOf, modulated, convolved}
+use Rattle.ps_hybrid_analysis.specs.Stages.{rootsOf, orderOf, turnOf, modulated, convolved}
 
 -- ---- a tap
 pub modulation-is : (p : Prototype) (q m : ℕ) → pairAt (rootsOf p) (2 * turnOf p q m) ≡ modulation p q m
@@ -38,39 +36,6 @@ turn-below Halves q m = omega arith
 turn-below Twelfths q m = omega arith
 turn-below EighthsOfBand1 q m = omega arith
 turn-below Quarters q m = omega arith
-
--- the roots of an order
-pub roots-8 : (p : Prototype) → orderOf p ≡ 8 → root8 ≡ rootsOf p
-roots-8 EighthsOfBand0 e = absurd (omega arith)
-roots-8 Halves e = refl
-roots-8 Twelfths e = absurd (omega arith)
-roots-8 EighthsOfBand1 e = absurd (omega arith)
-roots-8 Quarters e = refl
-
-pub roots-16 : (p : Prototype) → orderOf p ≡ 16 → root16 ≡ rootsOf p
-roots-16 EighthsOfBand0 e = refl
-roots-16 Halves e = absurd (omega arith)
-roots-16 Twelfths e = absurd (omega arith)
-roots-16 EighthsOfBand1 e = refl
-roots-16 Quarters e = absurd (omega arith)
-
-pub roots-24 : (p : Prototype) → (orderOf p ≡ 8 → ⊥) → (orderOf p ≡ 16 → ⊥) → root24 ≡ rootsOf p
-roots-24 EighthsOfBand0 e f = absurd (f refl)
-roots-24 Halves e f = absurd (e refl)
-roots-24 Twelfths e f = refl
-roots-24 EighthsOfBand1 e f = absurd (f refl)
-roots-24 Quarters e f = absurd (e refl)
-
-pub order-24 : (p : Prototype) → (orderOf p ≡ 8 → ⊥) → (orderOf p ≡ 16 → ⊥) → orderOf p ≡ 24
-order-24 EighthsOfBand0 e f = absurd (f refl)
-order-24 Halves e f = absurd (e refl)
-order-24 Twelfths e f = refl
-order-24 EighthsOfBand1 e f = absurd (f refl)
-order-24 Quarters e f = absurd (e refl)
-
--- the roots of a table that is a prototype's own
-pub waves-own : (p : Prototype) (roots : List ℤ) (order : ℕ) (waves : List Float) → roots ≡ rootsOf p → orderOf p ≡ order → Waves roots order waves → Waves (rootsOf p) (orderOf p) waves
-waves-own p roots order waves e f w = rw (← e, f) w
 
 module _ (p : Prototype) (g : Float) (q m : ℕ) (root : Complex) (is : root ≡ modulation p q m) where
   pub complex-tap : typeA p ≡ true → record { re = mul binary64 g (root .re); im = mul binary64 g (root .im) } ≡ modulated p g q m

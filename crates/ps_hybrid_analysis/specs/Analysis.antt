@@ -10,7 +10,7 @@ use Rattle.answer.specs.declared.Answer.{Answer}
 use Rattle.answer.specs.declared.Answer.the-variants.{Done, Buffers}
 use Rattle.complex.specs.declared.Complex.{Complex}
 use Rattle.layout.specs.declared.Layout.{Layout}
-use Rattle.layout.specs.Numbers.{splitOf, allPassOf}
+use Rattle.layout.specs.Numbers.{splitOf, unsplitFromOf}
 use Rattle.lists.specs.Part.{part}
 use Rattle.lists.specs.Rows.{rows}
 use Rattle.planar.specs.Cells.{cell, planar, overwritten}
@@ -34,9 +34,9 @@ module _ (l : Layout) (history input : List Float) where
   historyAfter slots =
       cond (enough slots) (rows (λ p. cond (ltb p (splitOf l)) (planar 6 (λ j. slotAt p (slots + j))) (part (12 * p) 12 history)) 5) history
 
-  -- the hybrid samples of each all-pass channel, of which the frame's slots are written; the channels above those are QMF bands as they are
+  -- the hybrid samples of each channel of a split band, of which the frame's slots are written; the other channels are QMF bands as they are
   unfoldable pub samplesAfter : ℕ → List Float → List Float
   samplesAfter slots samples =
       cond (enough slots)
-      (rows (λ k. cond (ltb k (allPassOf l)) (planar 32 (overwritten slots (λ n. hybrid l slotAt n k) (λ n. sampleAt samples n k))) (part (64 * k) 64 samples)) 50)
+      (rows (λ k. cond (ltb k (unsplitFromOf l)) (planar 32 (overwritten slots (λ n. hybrid l slotAt n k) (λ n. sampleAt samples n k))) (part (64 * k) 64 samples)) 32)
       samples

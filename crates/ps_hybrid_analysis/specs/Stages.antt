@@ -83,8 +83,8 @@ pub record Written (slots from to : ℕ) (f : ℕ → ℕ → Complex) (old new 
   pub long : length new ≡ length old
   pub inside : (k n : ℕ) → from ≤ k → k < to → n < slots → sampleAt new n k ≡ f k n
   pub below : (k n : ℕ) → k < from → n < 32 → sampleAt new n k ≡ sampleAt old n k
-  pub above : (k n : ℕ) → to ≤ k → k < 50 → n < 32 → sampleAt new n k ≡ sampleAt old n k
-  pub behind : (k n : ℕ) → k < 50 → slots ≤ n → n < 32 → sampleAt new n k ≡ sampleAt old n k
+  pub above : (k n : ℕ) → to ≤ k → k < 32 → n < 32 → sampleAt new n k ≡ sampleAt old n k
+  pub behind : (k n : ℕ) → k < 32 → slots ≤ n → n < 32 → sampleAt new n k ≡ sampleAt old n k
 
 -- channels that are 0 as yet
 pub record Blank (slots from to : ℕ) (samples : List Float) : Type 0 where

@@ -12,8 +12,8 @@ ghost use Rattle.standard.specs.Hybrid.{tap};
 ghost use Rattle.ps_hybrid_analysis.specs.Stages.{Waves, rootsOf, orderOf, convolved};
 ghost use Rattle.ps_hybrid_analysis.specs.Stages as stages;
 
-// The unit roots of a table as floats, made once for all filters of a band.
-pub fn waves(roots: &[i64], order: usize, out: &mut [f64])
+// The unit roots of a table as floats.
+fn floats(roots: &[i64], order: usize, out: &mut [f64])
     requires { ⌜ (order ≤ 24) × (length (now out) ≡ 48) ⌝ }
     ensures { λ _. ⌜ Waves (now (roots .entry)) order (now (out .exit)) ⌝ }
 {
@@ -21,6 +21,20 @@ pub fn waves(roots: &[i64], order: usize, out: &mut [f64])
         let root = fixed::pair(roots, 2 * t);
         out[2 * t] = root.re;
         out[2 * t + 1] = root.im;
+    }
+}
+
+// The unit roots that modulate a prototype, made once for all filters of a band.
+pub fn waves(prototype: Prototype, out: &mut [f64])
+    requires { ⌜ length (now out) ≡ 48 ⌝ }
+    ensures { λ _. ⌜ Waves (rootsOf prototype) (orderOf prototype) (now (out .exit)) ⌝ }
+{
+    match prototype {
+        Prototype::EighthsOfBand0 => floats(&root_table::roots_16(), 16, out),
+        Prototype::Halves => floats(&root_table::roots_8(), 8, out),
+        Prototype::Twelfths => floats(&root_table::roots_24(), 24, out),
+        Prototype::EighthsOfBand1 => floats(&root_table::roots_16(), 16, out),
+        Prototype::Quarters => floats(&root_table::roots_8(), 8, out),
     }
 }
 

@@ -1,4 +1,4 @@
-// Hybrid analysis of a frame (source document 002, §8.6.4.3): the lowest QMF bands split by filters of 13 taps, the others of all-pass channels passed on.
+// Hybrid analysis of a frame (source document 002, §8.6.4.3): the lowest QMF bands split by filters of 13 taps. The others are channels as they are.
 mod band;
 mod filter;
 mod plan;
@@ -7,12 +7,12 @@ use answer::Answer;
 use decimals::Prototype;
 use layout::Layout;
 ghost use mathlib.Core.Path.{_≡_};
-ghost use Prim.Native.Nat.{suc, _+_, _-_, _*_, _<_, _≤_};
+ghost use Prim.Native.Nat.{suc, _+_, _*_, _<_, _≤_};
 ghost use lib.ListN.{length};
 ghost use Rattle.borders.specs.Borders.{slotsOf};
 ghost use Rattle.complex.specs.Operations.{sum};
 ghost use Rattle.decimals.specs.Prototypes.{prototypeOf};
-ghost use Rattle.layout.specs.Numbers.{splitOf, unsplitFromOf, allPassOf};
+ghost use Rattle.layout.specs.Numbers.{splitOf, unsplitFromOf};
 ghost use Rattle.lists.specs.Part.{part};
 ghost use Rattle.planar.specs.Cells.{cell, planar, overwritten};
 ghost use Rattle.planar.specs.Frame.{sampleAt};
@@ -34,8 +34,8 @@ fn silence_run(run: &mut [f64], slots: usize)
 
 // The channels of a split band.
 fn silence(samples: &mut [f64], from: usize, to: usize, slots: usize)
-    requires { ⌜ (from ≤ to) × (to ≤ 50) ⌝ }
-    requires { ⌜ (length (now samples) ≡ 3200) × (slots ≤ 32) ⌝ }
+    requires { ⌜ (from ≤ to) × (to ≤ 32) ⌝ }
+    requires { ⌜ (length (now samples) ≡ 2048) × (slots ≤ 32) ⌝ }
     ensures { λ _. ⌜ Written slots from to (λ k n. nought) (now (samples .entry)) (now (samples .exit)) ⌝ }
 {
     for k in from..to {
@@ -58,7 +58,7 @@ fn apply(
 )
     requires { ⌜ (prototype ≡ prototypeFor layout p) × ((p < splitOf layout) × (q < filtersOf prototype)) ⌝ }
     requires { ⌜ ((length (now waves) ≡ 48) × Waves (rootsOf prototype) (orderOf prototype) (now waves)) × (now g ≡ prototypeOf prototype) ⌝ }
-    requires { ⌜ (length (now band) ≡ 88) × ((length (now samples) ≡ 3200) × (slots ≤ 32)) ⌝ }
+    requires { ⌜ (length (now band) ≡ 88) × ((length (now samples) ≡ 2048) × (slots ≤ 32)) ⌝ }
     ensures { λ _. ⌜ Written slots (channelFor layout p q) (channelFor layout p q + 1)
         (λ k n. sum (sampleAt (now (samples .entry)) n k) (filtered prototype q (cell 44 (now (band .entry))) n))
         (now (samples .entry)) (now (samples .exit)) ⌝ }
@@ -83,7 +83,7 @@ fn apply_all(
 )
     requires { ⌜ (prototype ≡ prototypeFor layout p) × (p < splitOf layout) ⌝ }
     requires { ⌜ ((length (now waves) ≡ 48) × Waves (rootsOf prototype) (orderOf prototype) (now waves)) × (now g ≡ prototypeOf prototype) ⌝ }
-    requires { ⌜ (length (now band) ≡ 88) × ((length (now samples) ≡ 3200) × (slots ≤ 32)) ⌝ }
+    requires { ⌜ (length (now band) ≡ 88) × ((length (now samples) ≡ 2048) × (slots ≤ 32)) ⌝ }
     requires { ⌜ Blank slots (firstChannelOf layout p) (firstChannelOf layout (suc p)) (now samples) ⌝ }
     ensures { λ _. ⌜ Written slots (firstChannelOf layout p) (firstChannelOf layout (suc p))
         (λ k n. joinedTo layout p (cell 44 (now (band .entry))) n k (filtersOf prototype)) (now (samples .entry)) (now (samples .exit)) ⌝ }
@@ -104,36 +104,21 @@ fn modulate(
     samples: &mut [f64],
 )
     requires { ⌜ (prototype ≡ prototypeFor layout p) × (p < splitOf layout) ⌝ }
-    requires { ⌜ (length (now band) ≡ 88) × ((length (now samples) ≡ 3200) × (slots ≤ 32)) ⌝ }
+    requires { ⌜ (length (now band) ≡ 88) × ((length (now samples) ≡ 2048) × (slots ≤ 32)) ⌝ }
     requires { ⌜ Blank slots (firstChannelOf layout p) (firstChannelOf layout (suc p)) (now samples) ⌝ }
     ensures { λ _. ⌜ Written slots (firstChannelOf layout p) (firstChannelOf layout (suc p))
         (λ k n. joinedTo layout p (cell 44 (now (band .entry))) n k (filtersOf prototype)) (now (samples .entry)) (now (samples .exit)) ⌝ }
 {
     let g = prototype.taps();
     let mut waves = [0.0; 48];
-    match plan::order(prototype) {
-        8 => {
-            let roots = root_table::roots_8();
-            filter::waves(&roots, 8, &mut waves);
-            apply_all(layout, p, prototype, &waves, &g, band, slots, samples);
-        }
-        16 => {
-            let roots = root_table::roots_16();
-            filter::waves(&roots, 16, &mut waves);
-            apply_all(layout, p, prototype, &waves, &g, band, slots, samples);
-        }
-        _ => {
-            let roots = root_table::roots_24();
-            filter::waves(&roots, 24, &mut waves);
-            apply_all(layout, p, prototype, &waves, &g, band, slots, samples);
-        }
-    }
+    filter::waves(prototype, &mut waves);
+    apply_all(layout, p, prototype, &waves, &g, band, slots, samples);
 }
 
 // The hybrid channels of QMF band p, from its slots.
 fn filter_band(layout: Layout, p: usize, band: &[f64], slots: usize, samples: &mut [f64])
     requires { ⌜ p < splitOf layout ⌝ }
-    requires { ⌜ (length (now band) ≡ 88) × ((length (now samples) ≡ 3200) × (slots ≤ 32)) ⌝ }
+    requires { ⌜ (length (now band) ≡ 88) × ((length (now samples) ≡ 2048) × (slots ≤ 32)) ⌝ }
     ensures { λ _. ⌜ Written slots (firstChannelOf layout p) (firstChannelOf layout (suc p))
         (λ k n. joinedTo layout p (cell 44 (now (band .entry))) n k (filtersOf (prototypeFor layout p))) (now (samples .entry)) (now (samples .exit)) ⌝ }
 {
@@ -154,7 +139,7 @@ fn split_band(
     samples: &mut [f64],
 )
     requires { ⌜ (p < splitOf layout) × ((slots ≤ 32) × (length (now history) ≡ 12)) ⌝ }
-    requires { ⌜ (128 * (slots + 6) ≤ length (now input)) × (length (now samples) ≡ 3200) ⌝ }
+    requires { ⌜ (128 * (slots + 6) ≤ length (now input)) × (length (now samples) ≡ 2048) ⌝ }
     ensures history { λ _. ⌜ now (history .exit) ≡ planar 6 (λ j. bandAt (now (history .entry)) (now (input .entry)) p (slots + j)) ⌝ }
     ensures samples { λ _. ⌜ Written slots (firstChannelOf layout p) (firstChannelOf layout (suc p))
         (λ k n. joinedTo layout p (bandAt (now (history .entry)) (now (input .entry)) p) n k (filtersOf (prototypeFor layout p)))
@@ -175,7 +160,7 @@ fn split_bands(
     samples: &mut [f64],
 )
     requires { ⌜ (slots ≤ 32) × (length (now history) ≡ 60) ⌝ }
-    requires { ⌜ (128 * (slots + 6) ≤ length (now input)) × (length (now samples) ≡ 3200) ⌝ }
+    requires { ⌜ (128 * (slots + 6) ≤ length (now input)) × (length (now samples) ≡ 2048) ⌝ }
     ensures history { λ _. ⌜ Kept (splitOf layout) (λ p. planar 6 (λ j. bandAt (part (12 * p) 12 (now (history .entry))) (now (input .entry)) p (slots + j)))
         (now (history .entry)) (now (history .exit)) ⌝ }
     ensures samples { λ _. ⌜ Written slots 0 (unsplitFromOf layout)
@@ -188,50 +173,13 @@ fn split_bands(
     }
 }
 
-// An unsplit QMF band's slots.
-fn column(input: &[f64], p: usize, slots: usize, run: &mut [f64])
-    requires { ⌜ (p < 64) × ((length (now run) ≡ 64) × (slots ≤ 32)) ⌝ }
-    requires { ⌜ 128 * slots ≤ length (now input) ⌝ }
-    ensures { λ _. ⌜ now (run .exit) ≡ planar 32 (overwritten slots (λ n. cell 1 (now (input .entry)) (128 * n + 2 * p)) (cell 32 (now (run .entry)))) ⌝ }
-{
-    for n in 0..slots {
-        let at = 128 * n + 2 * p;
-        run[n] = input[at];
-        run[n + 32] = input[at + 1];
-    }
-}
-
-// The channels from `first` to `end`: QMF bands from `split` on, unchanged.
-fn columns(input: &[f64], split: usize, first: usize, end: usize, slots: usize, samples: &mut [f64])
-    requires { ⌜ (split ≤ 5) × ((first ≤ end) × ((end ≤ 50) × (end + split ≤ first + 64))) ⌝ }
-    requires { ⌜ (128 * slots ≤ length (now input)) × ((length (now samples) ≡ 3200) × (slots ≤ 32)) ⌝ }
-    ensures { λ _. ⌜ Written slots first end (λ k n. cell 1 (now (input .entry)) (128 * n + 2 * (k + split - first))) (now (samples .entry)) (now (samples .exit)) ⌝ }
-{
-    for k in first..end {
-        let at = 64 * k;
-        column(input, k + split - first, slots, &mut samples[at..at + 64]);
-    }
-}
-
-// The unsplit QMF bands of all-pass channels.
-fn pass_bands(layout: Layout, input: &[f64], slots: usize, samples: &mut [f64])
-    requires { ⌜ (128 * slots ≤ length (now input)) × ((length (now samples) ≡ 3200) × (slots ≤ 32)) ⌝ }
-    ensures { λ _. ⌜ Written slots (unsplitFromOf layout) (allPassOf layout)
-        (λ k n. cell 1 (now (input .entry)) (128 * n + 2 * (k + splitOf layout - unsplitFromOf layout))) (now (samples .entry)) (now (samples .exit)) ⌝ }
-{
-    let split = layout.split();
-    let first = layout.unsplit_from();
-    let end = layout.all_pass();
-    columns(input, split, first, end, slots, samples);
-}
-
 // A frame of the asked slots. Input that is too short is refused, and nothing changes.
 pub fn analyse(
     layout: Layout,
     asked: usize,
     history: &mut [f64; 60],
     input: &[f64],
-    samples: &mut [f64; 3200],
+    samples: &mut [f64; 2048],
 ) -> Answer
     ensures answer { λ r. ⌜ r ≡ answerOf layout (now (history .entry)) (now (input .entry)) (slotsOf asked) ⌝ }
     ensures history { λ _. ⌜ now (history .exit) ≡ historyAfter layout (now (history .entry)) (now (input .entry)) (slotsOf asked) ⌝ }
@@ -242,6 +190,5 @@ pub fn analyse(
         return Answer::Buffers;
     }
     split_bands(layout, history, input, slots, samples);
-    pass_bands(layout, input, slots, samples);
     Answer::Done
 }

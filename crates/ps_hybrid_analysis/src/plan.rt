@@ -5,7 +5,7 @@ ghost use mathlib.Core.Path.{_≡_};
 ghost use Prim.Native.Nat.{_<_};
 ghost use Rattle.layout.specs.Numbers.{splitOf};
 ghost use Rattle.standard.specs.Hybrid.{prototypeFor, filtersOf, typeA, channelFor, firstChannelOf};
-ghost use Rattle.ps_hybrid_analysis.specs.Stages.{orderOf, turnOf};
+ghost use Rattle.ps_hybrid_analysis.specs.Stages.{turnOf};
 
 // The prototype of QMF band p.
 pub fn prototype_for(layout: Layout, p: usize) -> Prototype
@@ -34,19 +34,6 @@ pub fn filters_of(prototype: Prototype) -> usize
         Prototype::Twelfths => 12,
         Prototype::EighthsOfBand1 => 8,
         Prototype::Quarters => 4,
-    }
-}
-
-// The order of the unit roots that modulate it.
-pub fn order(prototype: Prototype) -> usize
-    ensures { λ r. ⌜ r ≡ orderOf prototype ⌝ }
-{
-    match prototype {
-        Prototype::EighthsOfBand0 => 16,
-        Prototype::Halves => 8,
-        Prototype::Twelfths => 24,
-        Prototype::EighthsOfBand1 => 16,
-        Prototype::Quarters => 8,
     }
 }
 
@@ -104,7 +91,7 @@ pub fn span(layout: Layout, p: usize) -> usize
 // QMF band 0's filters join to six channels, band 1's are exchanged.
 fn channel_of_71(p: usize, q: usize) -> usize
     requires { ⌜ q < 12 ⌝ }
-    ensures { λ r. ⌜ (r ≡ channelFor Layout.Bands20 p q) × (r < 20) ⌝ }
+    ensures { λ r. ⌜ r ≡ channelFor Layout.Bands20 p q ⌝ }
 {
     match p {
         0 => match q {
@@ -125,8 +112,8 @@ fn channel_of_71(p: usize, q: usize) -> usize
 
 // The hybrid channel of filter q of QMF band p.
 pub fn channel(layout: Layout, p: usize, q: usize) -> usize
-    requires { ⌜ (p < splitOf layout) × (q < 12) ⌝ }
-    ensures { λ r. ⌜ (r ≡ channelFor layout p q) × (r < 50) ⌝ }
+    requires { ⌜ (p < splitOf layout) × (q < filtersOf (prototypeFor layout p)) ⌝ }
+    ensures { λ r. ⌜ (r ≡ channelFor layout p q) × (r < 32) ⌝ }
 {
     match layout {
         Layout::Bands20 => channel_of_71(p, q),

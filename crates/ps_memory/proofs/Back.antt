@@ -2,7 +2,7 @@
 use mathlib.Core.Path.{_≡_, refl, sym, ap, _∙_}
 use mathlib.Core.List.{List, [], _∷_, _++_, append-nil}
 use mathlib.Core.Bool.{false}
-use Prim.Native.Nat.{ℕ, suc, _+_, _≤_}
+use Prim.Native.Nat.{ℕ, suc, _+_, _%_, _≤_, _<_}
 use native.Mathlib.Omega.{arith}
 use lib.ListN.{length, take, drop, length-append}
 use lib.Seq.{take-at, drop-at, drop-drop}
@@ -22,7 +22,7 @@ use Rattle.ps_state.specs.Shape.{Shaped}
 use Rattle.ps_state.specs.State.{freshDecoder}
 use Rattle.ps_stereo.specs.declared.PsStereo.{PsStereo}
 use Rattle.ps_memory.specs.Packed.{packed}
-use Rattle.ps_memory.specs.Place.{rowLong, linesLong, historyLong, decorrLong, stereoLong, soundLong, linesAt, historyAt, decorrAt, stereoAt, numbers, layoutIn, wide, slotsIn, headImage, rowPlace, rowOf, rowImage, linesOf, linesImage, decorrIn, decorrImage, stereoOf, stereoImage, soundImage, image, loaded}
+use Rattle.ps_memory.specs.Place.{rowLong, linesLong, historyLong, decorrLong, stereoLong, soundLong, linesAt, historyAt, decorrAt, stereoAt, numbers, layoutIn, wide, slotsIn, turnIn, headImage, rowPlace, rowOf, rowImage, linesOf, linesImage, decorrIn, decorrImage, stereoOf, stereoImage, soundImage, image, loaded}
 use Rattle.ps_memory.specs.Shape.{Narrow, RowKept, IndicesKept, StateKept}
 use Rattle.ps_memory.proofs.Narrow.{packed-length, packed-back}
 
@@ -50,6 +50,9 @@ layout-back Bands34 = rw (flag-back (wide Bands34))
 
 slots-back : (asked : ℕ) → 6 ≤ asked → asked ≤ 32 → slotsIn (keptNumber (slotsOf asked)) ≡ asked
 slots-back asked h k = ap slotsOf (number-back 32 (slotsOf asked) (omega arith) (omega arith)) ∙ omega arith
+
+turn-back : (turn : ℕ) → turn < 420 → turnIn (keptNumber (turn % 420)) ≡ turn
+turn-back turn h = number-back 419 (turn % 420) (omega arith) (omega arith) ∙ omega arith
 
 -- ---- what the lines have left
 
@@ -130,14 +133,14 @@ module _ (s : PsDecoder) (shape : Shaped s) where
         shape .detectors,
       )
 
-  decorr-back : decorrIn (decorrImage d) ≡ d
+  decorr-back : decorrIn (d .turn) (decorrImage d) ≡ d
   unfolding decorrIn decorrImage
   decorr-back =
       let m = decorrImage d in
-      let delays = next m (d .delays) (d .long ++ (d .short ++ d .detectors)) 0 1400 refl (shape .delays) in
-      let long = next m (d .long) (d .short ++ d .detectors) 1400 336 (delays .then) (shape .long) in
-      let short = next m (d .short) (d .detectors) 1736 58 (long .then) (shape .short) in
-      rw (← delays .here, ← long .here, ← short .here, ← last m (d .detectors) 1794 102 (short .then) (shape .detectors))
+      let delays = next m (d .delays) (d .long ++ (d .short ++ d .detectors)) 0 1456 refl (shape .delays) in
+      let long = next m (d .long) (d .short ++ d .detectors) 1456 336 (delays .then) (shape .long) in
+      let short = next m (d .short) (d .detectors) 1792 58 (long .then) (shape .short) in
+      rw (← delays .here, ← long .here, ← short .here, ← last m (d .detectors) 1850 102 (short .then) (shape .detectors))
 
   stereo-long : length (stereoImage t) ≡ stereoLong
   unfolding stereoImage
@@ -183,6 +186,7 @@ module _ (s : PsDecoder) (kept : StateKept s) where
         ← decorr .here,
         ← last m t stereoAt stereoLong (decorr .then) (stereo-long s shape),
         lines-back (s .lines) (kept .rows),
+        turn-back (s .decorr .turn) (kept .turned),
         decorr-back s shape,
         stereo-back s shape (kept .phases),
         layout-back (s .layout),
@@ -195,5 +199,5 @@ pub image-fresh : (asked : ℕ) → image (freshDecoder asked) ≡ image (freshD
 unfolding image headImage
 image-fresh asked =
     let same : slotsOf asked ≡ slotsOf (slotsOf asked) = omega arith in
-    let rest = linesImage freshLines ++ soundImage (freshDecoder 0 .history) (freshDecoder 0 .decorr) (freshDecoder 0 .stereo) in
+    let rest = keptNumber (0 % 420) ∷ linesImage freshLines ++ soundImage (freshDecoder 0 .history) (freshDecoder 0 .decorr) (freshDecoder 0 .stereo) in
     ap (λ (n : ℕ). keptFlag (wide Bands20) ∷ keptFlag false ∷ keptNumber n ∷ rest) same

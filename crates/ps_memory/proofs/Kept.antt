@@ -1,6 +1,7 @@
 -- A fresh decoder is a state that memory keeps, and an accepted frame leaves one. Assumes nothing.
 use mathlib.Core.Path.{_≡_, refl, sym, subst}
 use Prim.Native.Nat.{ℕ, _≤_}
+use native.Mathlib.Omega.{arith}
 use Rattle.calls.specs.Call.{Call, header, layout, resolved, frameOf, after}
 use Rattle.calls.specs.Cues.{cueAt}
 use Rattle.layout.specs.declared.Layout.{Layout}
@@ -22,6 +23,7 @@ fresh-kept asked h k =
     record {
       fewest = h;
       most = k;
+      turned = omega arith;
       shape = shaped-fresh asked;
       rows = record { iid = none-kept; icc = none-kept; ipd = none-kept; opd = none-kept };
       phases = narrow-zeros 136;
@@ -68,6 +70,7 @@ module _ (s : PsDecoder) (c : Call) (kept : StateKept s) where
       record {
         fewest = subst (λ (n : ℕ). 6 ≤ n) (sym asked) (kept .fewest);
         most = subst (λ (n : ℕ). n ≤ 32) (sym asked) (kept .most);
+        turned = omega arith;
         shape = shaped-stored made next (shaped-readied s (layout (playingOf s) c) (c .edge) (kept .shape));
         rows = line-kept (s .lines) (kept .rows) (c .line) .rows;
         phases =

@@ -74,9 +74,9 @@ lines-laid s m a b c d v l ev ea eb ec ed =
     headed v (piece rowLong a) (piece rowLong b ∷ piece rowLong c ∷ piece rowLong d ∷ []) m l ∙ rw (ev, ea, eb, ec, ed)
 
 pub decorr-laid : (s : PsDecorr) (m a b c d : List Float) → length m ≡ decorrLong → a ≡ s .delays → b ≡ s .long → c ≡ s .short → d ≡ s .detectors
-    → put 0 1400 (put 1400 336 (put 1736 58 (put 1794 102 m d) c) b) a ≡ decorrImage s
+    → put 0 1456 (put 1456 336 (put 1792 58 (put 1850 102 m d) c) b) a ≡ decorrImage s
 unfolding decorrImage
-decorr-laid s m a b c d l ea eb ec ed = laid 0 (piece 1400 a) (piece 336 b ∷ piece 58 c ∷ piece 102 d ∷ []) m l ∙ rw (ea, eb, ec, ed)
+decorr-laid s m a b c d l ea eb ec ed = laid 0 (piece 1456 a) (piece 336 b ∷ piece 58 c ∷ piece 102 d ∷ []) m l ∙ rw (ea, eb, ec, ed)
 
 pub stereo-laid : (s : PsStereo) (m a b : List Float) → length m ≡ stereoLong → a ≡ s .matrices → b ≡ packed (length (part 272 68 m)) (s .phases)
     → put 0 272 (put 272 68 m b) a ≡ stereoImage s
@@ -90,7 +90,7 @@ unfolding soundImage
 sound-laid history decorr stereo m a b c l ea eb ec =
     laid 0 (piece historyLong a) (piece decorrLong b ∷ piece stereoLong c ∷ []) m l ∙ rw (ea, eb, ec)
 
-pub whole-laid : (s : PsDecoder) (m a b c : List Float) → length m ≡ numbers → a ≡ headImage (s .layout) (s .cued) (s .asked)
+pub whole-laid : (s : PsDecoder) (m a b c : List Float) → length m ≡ numbers → a ≡ headImage (s .layout) (s .cued) (s .asked) (s .decorr .turn)
     → b ≡ linesImage (s .lines) → c ≡ soundImage (s .history) (s .decorr) (s .stereo)
     → put 0 headLong (put linesAt linesLong (put historyAt soundLong m c) b) a ≡ image s
 unfolding image

@@ -1,6 +1,6 @@
 -- Where the parts of a state lie in lent memory, what any memory reads as, and what a state is written as.
 -- Assumes nothing.
-use Prim.Native.Nat.{ℕ, _+_, _*_}
+use Prim.Native.Nat.{ℕ, _+_, _*_, _%_}
 use mathlib.Core.List.{List, [], _∷_, _++_}
 use mathlib.Core.Bool.{Bool, true, false, cond}
 use lib.Dec.{eqb}
@@ -23,9 +23,9 @@ use Rattle.ps_memory.specs.Packed.{packed, unpacked}
 
 -- ---- places
 
--- layout (1 where 34 bands), cued, slots
+-- layout (1 where 34 bands), cued, slots, turn
 abbrev pub headLong : ℕ
-headLong = 3
+headLong = 4
 
 -- a kept row: its count, and its 34 places in 17 floats
 abbrev pub rowLong : ℕ
@@ -39,9 +39,9 @@ linesLong = 1 + 4 * rowLong
 abbrev pub historyLong : ℕ
 historyLong = 60
 
--- de-correlation: all-pass channels at 0, long delays at 1400, short ones at 1736, detectors at 1794
+-- de-correlation: all-pass channels at 0, long delays at 1456, short ones at 1792, detectors at 1850
 abbrev pub decorrLong : ℕ
-decorrLong = 1896
+decorrLong = 1952
 
 -- mixing: coefficients at 0, phases at 272 in 68 floats
 abbrev pub stereoLong : ℕ
@@ -79,8 +79,12 @@ wide Bands34 = true
 abbrev pub slotsIn : Float → ℕ
 slotsIn x = slotsOf (numberIn 32 x)
 
-unfoldable pub headImage : Layout → Bool → ℕ → List Float
-headImage layout cued asked = keptFlag (wide layout) ∷ keptFlag cued ∷ keptNumber (slotsOf asked) ∷ []
+-- and as a turn of 0..419
+abbrev pub turnIn : Float → ℕ
+turnIn x = numberIn 419 x
+
+unfoldable pub headImage : Layout → Bool → ℕ → ℕ → List Float
+headImage layout cued asked turn = keptFlag (wide layout) ∷ keptFlag cued ∷ keptNumber (slotsOf asked) ∷ keptNumber (turn % 420) ∷ []
 
 -- ---- what the lines have left
 
@@ -110,8 +114,9 @@ linesImage s =
 
 -- ---- sound
 
-unfoldable pub decorrIn : List Float → PsDecorr
-decorrIn m = record { delays = part 0 1400 m; long = part 1400 336 m; short = part 1736 58 m; detectors = part 1794 102 m }
+-- the turn stands in the head
+unfoldable pub decorrIn : ℕ → List Float → PsDecorr
+decorrIn turn m = record { turn = turn; delays = part 0 1456 m; long = part 1456 336 m; short = part 1792 58 m; detectors = part 1850 102 m }
 
 unfoldable pub decorrImage : PsDecorr → List Float
 decorrImage s = s .delays ++ (s .long ++ (s .short ++ s .detectors))
@@ -130,7 +135,7 @@ soundImage history decorr stereo = history ++ (decorrImage decorr ++ stereoImage
 -- the memory of a state
 unfoldable pub image : PsDecoder → List Float
 image s =
-    headImage (s .layout) (s .cued) (s .asked) ++ (linesImage (s .lines) ++ soundImage (s .history) (s .decorr) (s .stereo))
+    headImage (s .layout) (s .cued) (s .asked) (s .decorr .turn) ++ (linesImage (s .lines) ++ soundImage (s .history) (s .decorr) (s .stereo))
 
 -- the state that a memory holds
 unfoldable pub loaded : List Float → PsDecoder
@@ -141,7 +146,7 @@ loaded m =
       cued = flagIn (getD m 1 nan);
       lines = linesOf (part linesAt linesLong m);
       history = part historyAt historyLong m;
-      decorr = decorrIn (part decorrAt decorrLong m);
+      decorr = decorrIn (turnIn (getD m 3 nan)) (part decorrAt decorrLong m);
       stereo = stereoOf (part stereoAt stereoLong m);
     }
 

@@ -28,6 +28,7 @@ pub record IndicesKept (s : PsIndexState) : Type 0 where
 pub record StateKept (s : PsDecoder) : Type 0 where
   pub fewest : 6 ≤ s .asked
   pub most : s .asked ≤ 32
+  pub turned : s .decorr .turn < 420
   pub shape : Shaped s
   pub rows : IndicesKept (s .lines .rows)
   pub phases : Narrow (s .stereo .phases)

@@ -7,10 +7,10 @@ use ps_state::PsCarried;
 ghost use mathlib.Core.Path.{_≡_};
 ghost use lib.ListN.{length};
 ghost use Rattle.ps_state.specs.State.{carriedOf, decoderOf};
-ghost use Rattle.ps_memory.specs.Place.{numbers, headLong, layoutIn, wide, slotsIn, headImage, freshCarried, loaded, image, loadOver, storedIn};
+ghost use Rattle.ps_memory.specs.Place.{numbers, headLong, layoutIn, wide, slotsIn, turnIn, headImage, freshCarried, loaded, image, loadOver, storedIn};
 
-// The places of specs/Place: layout, cued and slots, then what the lines have left, then the sound.
-const LINES: usize = 3;
+// The places of specs/Place: layout, cued, slots and turn, then what the lines have left, then the sound.
+const LINES: usize = 4;
 
 const HISTORY: usize = LINES + lines::LONG;
 
@@ -46,20 +46,27 @@ fn is_wide(layout: Layout) -> bool
     }
 }
 
-// The single numbers. The slots are kept as they act, 6 to 32.
-fn store_head(layout: Layout, cued: bool, asked: usize, to: &mut [f64])
+// The single numbers. The slots are kept as they act, 6 to 32, and the turn as it counts, 0 to 419.
+fn store_head(layout: Layout, cued: bool, asked: usize, turn: usize, to: &mut [f64])
     requires { ⌜ length (now to) ≡ headLong ⌝ }
-    ensures { λ _. ⌜ now (to .exit) ≡ headImage layout cued asked ⌝ }
+    ensures { λ _. ⌜ now (to .exit) ≡ headImage layout cued asked turn ⌝ }
 {
     to[0] = exact_numbers::kept_flag(is_wide(layout));
     to[1] = exact_numbers::kept_flag(cued);
     to[2] = exact_numbers::kept_number(borders::slots(asked) as u16);
+    to[3] = exact_numbers::kept_number((turn % 420) as u16);
 }
 
 fn slots_in(x: f64) -> usize
     ensures { λ r. ⌜ r ≡ slotsIn x ⌝ }
 {
     borders::slots(exact_numbers::number(x, 32) as usize)
+}
+
+fn turn_in(x: f64) -> usize
+    ensures { λ r. ⌜ r ≡ turnIn x ⌝ }
+{
+    exact_numbers::number(x, 419) as usize
 }
 
 // What is small in the state that a memory holds, and in a fresh one.
@@ -73,6 +80,7 @@ fn load_carried(memory: &[f64]) -> PsCarried
         cued: exact_numbers::flag(memory[1]),
         lines: lines::load(&memory[LINES..HISTORY]),
         stereo: sound::load_stereo(&memory[STEREO..NUMBERS]),
+        turn: turn_in(memory[3]),
     }
 }
 
@@ -85,6 +93,7 @@ fn fresh_carried() -> PsCarried
         cued: false,
         lines: ps_data::fresh(),
         stereo: ps_stereo::fresh(),
+        turn: 0,
     }
 }
 
@@ -92,7 +101,7 @@ fn fresh_carried() -> PsCarried
 pub fn load(
     memory: &[f64],
     history: &mut [f64; 60],
-    delays: &mut [f64; 1400],
+    delays: &mut [f64; 1456],
     long: &mut [f64; 336],
     short: &mut [f64; 58],
     detectors: &mut [f64; 102],
@@ -111,7 +120,7 @@ pub fn load(
 fn store_whole(
     carried: PsCarried,
     history: &[f64; 60],
-    delays: &[f64; 1400],
+    delays: &[f64; 1456],
     long: &[f64; 336],
     short: &[f64; 58],
     detectors: &[f64; 102],
@@ -134,14 +143,20 @@ fn store_whole(
     let lines = carried.lines;
     lines::store(lines, &mut memory[LINES..HISTORY]);
     let layout = carried.layout;
-    store_head(layout, carried.cued, carried.asked, &mut memory[0..LINES]);
+    store_head(
+        layout,
+        carried.cued,
+        carried.asked,
+        carried.turn,
+        &mut memory[0..LINES],
+    );
 }
 
 // Makes memory that of a state; a memory of another length is left as it is.
 pub fn store(
     carried: PsCarried,
     history: &[f64; 60],
-    delays: &[f64; 1400],
+    delays: &[f64; 1456],
     long: &[f64; 336],
     short: &[f64; 58],
     detectors: &[f64; 102],

@@ -2,13 +2,14 @@
 use super::lines;
 use ps_stereo::PsStereo;
 ghost use mathlib.Core.Path.{_≡_};
+ghost use Prim.Native.Nat.{ℕ};
 ghost use lib.ListN.{length};
 ghost use Rattle.ps_decorr.specs.State.{decorrOf};
 ghost use Rattle.ps_memory.specs.Place.{decorrLong, stereoLong, soundLong, decorrIn, decorrImage, stereoOf, stereoImage, soundImage};
 
 pub const HISTORY_LONG: usize = 60;
 
-pub const DECORR_LONG: usize = 1896;
+pub const DECORR_LONG: usize = 1952;
 
 pub const STEREO_LONG: usize = 340;
 
@@ -27,37 +28,37 @@ pub fn copy(from: &[f64], to: &mut [f64])
     }
 }
 
-// The arrays of de-correlation out of memory, and into it.
+// The arrays of de-correlation out of memory, and into it, whatever their counter.
 pub fn load_decorr(
     from: &[f64],
-    delays: &mut [f64; 1400],
+    delays: &mut [f64; 1456],
     long: &mut [f64; 336],
     short: &mut [f64; 58],
     detectors: &mut [f64; 102],
 )
     requires { ⌜ length (now from) ≡ decorrLong ⌝ }
-    ensures { λ _. ⌜ decorrOf (now (delays .exit)) (now (long .exit)) (now (short .exit)) (now (detectors .exit)) ≡ decorrIn (now (from .entry)) ⌝ }
+    ensures { λ _. ⌜ ((turn : ℕ) → decorrOf turn (now (delays .exit)) (now (long .exit)) (now (short .exit)) (now (detectors .exit)) ≡ decorrIn turn (now (from .entry))) ⌝ }
 {
-    copy(&from[0..1400], delays);
-    copy(&from[1400..1736], long);
-    copy(&from[1736..1794], short);
-    copy(&from[1794..1896], detectors);
+    copy(&from[0..1456], delays);
+    copy(&from[1456..1792], long);
+    copy(&from[1792..1850], short);
+    copy(&from[1850..1952], detectors);
 }
 
 fn store_decorr(
-    delays: &[f64; 1400],
+    delays: &[f64; 1456],
     long: &[f64; 336],
     short: &[f64; 58],
     detectors: &[f64; 102],
     to: &mut [f64],
 )
     requires { ⌜ length (now to) ≡ decorrLong ⌝ }
-    ensures { λ _. ⌜ now (to .exit) ≡ decorrImage (decorrOf (now (delays .entry)) (now (long .entry)) (now (short .entry)) (now (detectors .entry))) ⌝ }
+    ensures { λ _. ⌜ ((turn : ℕ) → now (to .exit) ≡ decorrImage (decorrOf turn (now (delays .entry)) (now (long .entry)) (now (short .entry)) (now (detectors .entry)))) ⌝ }
 {
-    copy(detectors, &mut to[1794..1896]);
-    copy(short, &mut to[1736..1794]);
-    copy(long, &mut to[1400..1736]);
-    copy(delays, &mut to[0..1400]);
+    copy(detectors, &mut to[1850..1952]);
+    copy(short, &mut to[1792..1850]);
+    copy(long, &mut to[1456..1792]);
+    copy(delays, &mut to[0..1456]);
 }
 
 pub fn load_stereo(from: &[f64]) -> PsStereo
@@ -84,7 +85,7 @@ fn store_stereo(stereo: PsStereo, to: &mut [f64])
 
 pub fn store_sound(
     history: &[f64; 60],
-    delays: &[f64; 1400],
+    delays: &[f64; 1456],
     long: &[f64; 336],
     short: &[f64; 58],
     detectors: &[f64; 102],
@@ -92,8 +93,8 @@ pub fn store_sound(
     to: &mut [f64],
 )
     requires { ⌜ length (now to) ≡ soundLong ⌝ }
-    ensures { λ _. ⌜ now (to .exit)
-        ≡ soundImage (now (history .entry)) (decorrOf (now (delays .entry)) (now (long .entry)) (now (short .entry)) (now (detectors .entry))) stereo ⌝ }
+    ensures { λ _. ⌜ ((turn : ℕ) → now (to .exit)
+        ≡ soundImage (now (history .entry)) (decorrOf turn (now (delays .entry)) (now (long .entry)) (now (short .entry)) (now (detectors .entry))) stereo) ⌝ }
 {
     store_stereo(stereo, &mut to[STEREO..LONG]);
     store_decorr(

@@ -1,34 +1,37 @@
--- States that are near are held by the same numbers: an image of d entries reads a history no further back than d. Assumes nothing.
-use Prim.Native.Nat.{ℕ, suc, _+_, _-_, _<_}
+-- States that are near are held by the same numbers: an image or a ring of d entries reads a history no further back than d. Assumes nothing.
+use Prim.Native.Nat.{ℕ, suc, _+_, _-_, _*_, _/_, _%_, _<_}
 use native.Mathlib.Omega.{arith}
 use mathlib.Core.Path.{_≡_, refl, ap, ap₂, _∙_}
 use mathlib.Core.Bool.{Bool, true, false, cond}
-use mathlib.Core.List.{List, _++_}
+use mathlib.Core.List.{List, [], _∷_, _++_}
 use borrow.Author.Tests.{ltb-true, lt-ltb, le-ltb}
 use lib.Dec.{ltb}
 use lib.IntN.{ℤ}
-use lib.Ieee.{Float}
+use lib.Ieee.{Float, nan}
+use lib.ListN.{length, getD}
 use Rattle.calls.specs.Call.{Playing}
 use Rattle.calls.specs.Near.{Alike, reachOf, NearChannel, Near}
 use Rattle.complex.specs.declared.Complex.{Complex}
 use Rattle.layout.specs.declared.Layout.{Layout}
 use Rattle.layout.specs.declared.Layout.the-variants.{Bands20, Bands34}
-use Rattle.layout.specs.Numbers.{splitOf, bandsOf, channelsOf, allPassOf, shortDelayOf}
+use Rattle.layout.specs.Numbers.{splitOf, bandsOf, channelsOf, allPassOf, shortDelayOf, groupsOf}
 use Rattle.layout.proofs.Bounds.{bounds}
+use Rattle.lists.specs.Ring.{age}
 use Rattle.lists.proofs.Maps.{tabulate-same}
+use Rattle.lists.proofs.Ring.{age-small}
 use Rattle.lists.proofs.Rows.{rows-same}
 use Rattle.planar.specs.Cells.{overwritten}
 use Rattle.planar.specs.Frame.{numbersOf}
 use Rattle.planar.specs.Window.{imageOf}
 use Rattle.ps_decorr.specs.Channels.{longWith, shortWith, detectorsWith}
-use Rattle.ps_decorr_allpass.specs.Memory.{memoryOf, delaysWith}
+use Rattle.ps_decorr_allpass.specs.Memory.{cellOf, ownerOf, delaysWith}
 use Rattle.ps_stereo.specs.declared.PsStereo.{PsStereo}
 use Rattle.ps_stereo.specs.Kept.{keptIn, stereoWith}
 use Rattle.standard.specs.Channel.{Channel, back}
 use Rattle.standard.specs.Detector.{Detector}
 use Rattle.standard.specs.Mixing.{Kept}
 use Rattle.ps_state.specs.declared.PsDecoder.{PsDecoder}
-use Rattle.ps_state.specs.State.{historyWith, stored}
+use Rattle.ps_state.specs.State.{historyWith, turnAfter, stored}
 
 -- ---- images
 
@@ -37,6 +40,10 @@ image-alike d g h alike =
     ap₂ (λ (a b : List Float). a ++ b)
     (tabulate-same (λ i. back (d - suc i) g .re) (λ i. back (d - suc i) h .re) d (λ i u. ap (λ (z : Complex). z .re) (alike (d - suc i) (omega arith))))
     (tabulate-same (λ i. back (d - suc i) g .im) (λ i. back (d - suc i) h .im) d (λ i u. ap (λ (z : Complex). z .im) (alike (d - suc i) (omega arith))))
+
+-- the two parts of a complex number
+abbrev numbers : Complex → List Float
+numbers z = z .re ∷ z .im ∷ []
 
 -- a choice that differs only where the test fails
 chosen : {A : Type 0} (t : Bool) (x y z : A) → (t ≡ true → x ≡ y) → cond t x z ≡ cond t y z
@@ -67,27 +74,38 @@ short-inside l j u = omega (arith, bounds l .last)
 -- ---- the channels
 
 module _ (l : Layout) (c d : ℕ → Channel) (near : (k : ℕ) → k < channelsOf l → NearChannel l k (c k) (d k)) where
-  past-alike : (k reach : ℕ) → k < channelsOf l → reachOf l k ≡ reach → imageOf reach (c k .past) ≡ imageOf reach (d k .past)
-  past-alike k reach u e = image-alike reach (c k .past) (d k .past) (λ i v. near k u .past i (rw e v))
+  past-alike : (k reach : ℕ) → k < channelsOf l → reachOf l k ≡ reach → Alike reach (c k .past) (d k .past)
+  past-alike k reach u e i v = near k u .past i (rw e v)
 
-  memory-alike : (k : ℕ) → k < allPassOf l → memoryOf (c k) ≡ memoryOf (d k)
-  memory-alike k u =
+  cell-alike : (t k : ℕ) → k < allPassOf l → (j : ℕ) → cellOf t (c k) j ≡ cellOf t (d k) j
+  unfolding cellOf
+  cell-alike t k u j =
       let n = near k (chain-inside l k u) in
-      ap₂ (λ (a b : List Float). a ++ b) (past-alike k 2 (chain-inside l k u) (reach-chain l k u))
-      (ap₂ (λ (a b : List Float). a ++ b) (image-alike 3 (c k .first) (d k .first) (n .first u))
-      (ap₂ (λ (a b : List Float). a ++ b) (image-alike 4 (c k .second) (d k .second) (n .second u)) (image-alike 5 (c k .third) (d k .third) (n .third u))))
+      rw (
+        past-alike k 2 (chain-inside l k u) (reach-chain l k u) (age 2 t j) (age-small 2 t j (omega arith)),
+        n .first u (age 3 t (j - 2)) (age-small 3 t (j - 2) (omega arith)),
+        n .second u (age 4 t (j - 5)) (age-small 4 t (j - 5) (omega arith)),
+        n .third u (age 5 t (j - 9)) (age-small 5 t (j - 9) (omega arith)),
+      )
 
-  pub delays-alike : (old : List Float) → delaysWith l c old ≡ delaysWith l d old
+  delays-alike : (t : ℕ) (old : List Float) → delaysWith l t c old ≡ delaysWith l t d old
   unfolding delaysWith
-  delays-alike old = rows-same _ _ 50 (λ k u. chosen (ltb k (allPassOf l)) _ _ _ (λ e. memory-alike k (ltb-true k (allPassOf l) e)))
+  delays-alike t old =
+      tabulate-same _ _ (length old)
+      (λ m u.
+      ap (λ (x : Float). cond (ltb m (112 * groupsOf l)) x (getD old m nan))
+      (chosen (ltb (ownerOf m) (allPassOf l)) _ _ _ (λ e. rw (cell-alike t (ownerOf m) (ltb-true (ownerOf m) (allPassOf l) e) (m % 112 / 8)))))
 
-  pub long-alike : longWith l c ≡ longWith l d
+  long-alike : (t : ℕ) → longWith l t c ≡ longWith l t d
   unfolding longWith
-  long-alike = rows-same _ _ 12 (λ j u. past-alike (allPassOf l + j) 14 (long-inside l j u) (reach-long l j u))
+  long-alike t =
+      rows-same _ _ 14
+      (λ r u. rows-same _ _ 12
+      (λ j v. ap numbers (past-alike (allPassOf l + j) 14 (long-inside l j v) (reach-long l j v) (age 14 t r) (age-small 14 t r (omega arith)))))
 
-  pub short-alike : shortWith l c ≡ shortWith l d
+  short-alike : shortWith l c ≡ shortWith l d
   unfolding shortWith
-  short-alike = rows-same _ _ 29 (λ j u. past-alike (shortDelayOf l + j) 1 (short-inside l j u) (reach-short l j))
+  short-alike = rows-same _ _ 29 (λ j u. ap numbers (past-alike (shortDelayOf l + j) 1 (short-inside l j u) (reach-short l j) 0 (omega arith)))
 
 -- ---- the bands
 
@@ -133,8 +151,11 @@ stored-near old s t near =
     let l = s .core .layout in
     let e : l ≡ t .core .layout = core .layout in
     let history = history-alike l (s .past) (t .past) (near .past) (old .history) ∙ ap (λ (x : Layout). historyWith x (t .past) (old .history)) e in
-    let delays = delays-alike l (s .core .channel) (t .core .channel) (core .channel) (old .decorr .delays) ∙ ap (λ (x : Layout). delaysWith x (t .core .channel) (old .decorr .delays)) e in
-    let long = long-alike l (s .core .channel) (t .core .channel) (core .channel) ∙ ap (λ (x : Layout). longWith x (t .core .channel)) e in
+    let turn = turnAfter old (s .slots) in
+    let same : turn ≡ turnAfter old (t .slots) = ap (turnAfter old) (near .slots) in
+    let delays = delays-alike l (s .core .channel) (t .core .channel) (core .channel) turn (old .decorr .delays)
+    ∙ ap₂ (λ (x : Layout) (n : ℕ). delaysWith x n (t .core .channel) (old .decorr .delays)) e same in
+    let long = long-alike l (s .core .channel) (t .core .channel) (core .channel) turn ∙ ap₂ (λ (x : Layout) (n : ℕ). longWith x n (t .core .channel)) e same in
     let short = short-alike l (s .core .channel) (t .core .channel) (core .channel) ∙ ap (λ (x : Layout). shortWith x (t .core .channel)) e in
     let detectors = detectors-alike l (s .core .detector) (t .core .detector) (core .detector) (old .decorr .detectors)
     ∙ ap (λ (x : Layout). detectorsWith x (t .core .detector) (old .decorr .detectors)) e in
@@ -145,6 +166,6 @@ stored-near old s t near =
       cued = core .cued i;
       lines = near .lines i;
       history = history i;
-      decorr = record { delays = delays i; long = long i; short = short i; detectors = detectors i };
+      decorr = record { turn = same i; delays = delays i; long = long i; short = short i; detectors = detectors i };
       stereo = stereo i;
     }

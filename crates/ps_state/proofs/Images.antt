@@ -1,7 +1,7 @@
 -- What is read back from the lists that hold a state: a row of rows, a place of tables that stand one after the other, a history of its image, and a
--- channel of its 28 numbers. Assumes nothing.
+-- channel of its rings. Assumes nothing.
 use Prim.Native.Nat.{ℕ, suc, _+_, _-_, _*_, _<_, _≤_}
-use mathlib.Core.Path.{_≡_, refl, sym, subst, ap, _∙_}
+use mathlib.Core.Path.{_≡_, sym, subst, ap, _∙_}
 use mathlib.Core.Bool.{Bool, true, false, cond}
 use mathlib.Core.List.{List, [], _++_}
 use native.Mathlib.Nat.{mul-comm, suc-mul, mul-le-mul-right}
@@ -10,8 +10,8 @@ use borrow.Author.Tests.{lt-ltb}
 use lib.Dec.{ltb}
 use lib.IntN.{ℤ, pos}
 use lib.Ieee.{Float, nan}
-use lib.ListN.{length, getD, replicate, length-append, length-replicate, getD-replicate, List·getD-append}
-use lib.Seq.{ext-getD, take-at, take-all, drop-at, drop-drop, getD-append-add}
+use lib.ListN.{length, getD, replicate, length-replicate, getD-replicate, List·getD-append}
+use lib.Seq.{ext-getD, getD-append-add}
 use Rattle.calls.specs.Near.{Alike}
 use Rattle.complex.specs.declared.Complex.{Complex}
 use Rattle.lists.specs.Part.{part}
@@ -23,10 +23,12 @@ use Rattle.planar.specs.Cells.{cell}
 use Rattle.planar.specs.Frame.{ipdOf, opdOf}
 use Rattle.planar.specs.Window.{imageOf, historyOf}
 use Rattle.planar.proofs.Cells.{by-parts, planar-at, planar-length}
-use Rattle.ps_decorr_allpass.specs.Memory.{channelOf, memoryOf}
+use Rattle.planar.proofs.Rings.{ringed-ring}
+use Rattle.ps_decorr_allpass.specs.Memory.{channelOf, cellOf}
+use Rattle.ps_decorr_allpass.proofs.Rings.{cell-past, cell-first, cell-second, cell-third}
 use Rattle.ps_decorr_transient.specs.Gains.{detectorOf}
 use Rattle.standard.specs.Numbers.{zero, nought}
-use Rattle.standard.specs.Channel.{Channel, silent, back}
+use Rattle.standard.specs.Channel.{Channel, back}
 use Rattle.standard.specs.Detector.{Detector}
 
 -- ---- lists
@@ -64,13 +66,6 @@ module _ {A : Type 0} where
 
     pub table-next : getD (tabulate f n ++ rest) (n + i) d ≡ getD rest i d
     table-next = ap (λ (m : ℕ). getD (tabulate f n ++ rest) (m + i) d) (sym (tabulate-length f n)) ∙ getD-append-add (tabulate f n) rest i d
-
-  -- a list with more behind it, and a part of what stands behind it
-  pub part-head : (p q : List A) (j : ℕ) → length p ≡ j → part 0 j (p ++ q) ≡ p
-  part-head p q j h = take-at p q j h
-
-  pub part-next : (p q : List A) (a b j : ℕ) → length p ≡ a → part (a + b) j (p ++ q) ≡ part b j q
-  part-next p q a b j h = rw (← drop-drop b a (p ++ q), drop-at p q a h)
 
   -- a part of a list that is the same everywhere
   pub part-repeated : (a k n : ℕ) (z : A) → a + k ≤ n → part a k (replicate n z) ≡ replicate k z
@@ -121,61 +116,15 @@ held-image d run h e = subst (λ (t : List Float). Held d t h) (sym e) (history-
 pub held-silent : (d : ℕ) (run : List Float) → run ≡ replicate (d + d) zero → Held d run []
 held-silent d run e = subst (λ (t : List Float). Held d t []) (sym e) (history-silent d (d + d) (omega arith))
 
--- its 28 numbers: runs of 2, 3, 4 and 5 complex numbers
-module _ (c : Channel) where
-  abbrev past-run : List Float
-  past-run = imageOf 2 (c .past)
-
-  abbrev first-run : List Float
-  first-run = imageOf 3 (c .first)
-
-  abbrev second-run : List Float
-  second-run = imageOf 4 (c .second)
-
-  abbrev third-run : List Float
-  third-run = imageOf 5 (c .third)
-
-  first-part : part 4 6 (memoryOf c) ≡ first-run
-  first-part =
-      part-next past-run (first-run ++ (second-run ++ third-run)) 4 0 6 (image-length 2 (c .past))
-      ∙ part-head first-run (second-run ++ third-run) 6 (image-length 3 (c .first))
-
-  -- behind the first two runs
-  links-part : (b j : ℕ) → part (10 + b) j (memoryOf c) ≡ part b j (second-run ++ third-run)
-  links-part b j =
-      let at : 10 + b ≡ 4 + (6 + b) = omega arith in
-      ap (λ (a : ℕ). part a j (memoryOf c)) at
-      ∙ part-next past-run (first-run ++ (second-run ++ third-run)) 4 (6 + b) j (image-length 2 (c .past))
-      ∙ part-next first-run (second-run ++ third-run) 6 b j (image-length 3 (c .first))
-
-  second-part : part 10 8 (memoryOf c) ≡ second-run
-  second-part = links-part 0 8 ∙ part-head second-run third-run 8 (image-length 4 (c .second))
-
-  third-part : part 18 10 (memoryOf c) ≡ third-run
-  third-part =
-      links-part 8 10
-      ∙ part-next second-run third-run 8 0 10 (image-length 4 (c .second))
-      ∙ take-all 10 third-run (omega (arith, image-length 5 (c .third)))
-
-  pub memory-length : length (memoryOf c) ≡ 28
-  memory-length = simp (length-append, tabulate-length)
-
-  pub memory-chained : Chained (channelOf (memoryOf c)) c
-  memory-chained =
-      record {
-        past = held-image 2 (part 0 4 (memoryOf c)) (c .past) (part-head past-run (first-run ++ (second-run ++ third-run)) 4 (image-length 2 (c .past)));
-        first = held-image 3 (part 4 6 (memoryOf c)) (c .first) first-part;
-        second = held-image 4 (part 10 8 (memoryOf c)) (c .second) second-part;
-        third = held-image 5 (part 18 10 (memoryOf c)) (c .third) third-part;
-      }
-
-pub silent-chained : Chained (channelOf (replicate 28 zero)) silent
-silent-chained =
+-- its rings
+pub rings-chained : (t : ℕ) (cells : ℕ → Complex) (c : Channel) → ((j : ℕ) → j < 14 → cells j ≡ cellOf t c j) → Chained (channelOf t cells) c
+unfolding channelOf
+rings-chained t cells c is =
     record {
-      past = held-silent 2 (part 0 4 (replicate 28 zero)) refl;
-      first = held-silent 3 (part 4 6 (replicate 28 zero)) refl;
-      second = held-silent 4 (part 10 8 (replicate 28 zero)) refl;
-      third = held-silent 5 (part 18 10 (replicate 28 zero)) refl;
+      past = ringed-ring 2 t cells (c .past) (λ j u. is j (omega arith) ∙ cell-past t c j u);
+      first = ringed-ring 3 t (λ j. cells (2 + j)) (c .first) (λ j u. is (2 + j) (omega arith) ∙ cell-first t c j u);
+      second = ringed-ring 4 t (λ j. cells (5 + j)) (c .second) (λ j u. is (5 + j) (omega arith) ∙ cell-second t c j u);
+      third = ringed-ring 5 t (λ j. cells (9 + j)) (c .third) (λ j u. is (9 + j) (omega arith) ∙ cell-third t c j u);
     }
 
 -- ---- bands

@@ -1,7 +1,6 @@
 pub mod Alike
 pub mod Images
 pub mod Stored
-pub mod Cleared
 pub mod Channels
 pub mod Remapped
 pub mod Readied

@@ -1,19 +1,24 @@
 -- The state made ready over flat numbers is near the state that the definitions make ready, and keeps its lengths. Assumes nothing.
 use mathlib.Core.Path.{_≡_, refl, _∙_}
 use mathlib.Core.Bool.{Bool, true, false, cond}
-use mathlib.Core.List.{[]}
-use Prim.Native.Nat.{ℕ, _-_, _*_, _<_, min}
+use mathlib.Core.List.{List, []}
+use Prim.Native.Nat.{ℕ, _*_, _<_}
 use native.Mathlib.Omega.{arith}
+use lib.Dec.{ltb}
+use lib.Ieee.{Float}
 use lib.IntN.{pos}
-use lib.ListN.{replicate, length-replicate}
+use lib.ListN.{length, replicate, length-replicate}
 use Rattle.calls.specs.Near.{Alike, NearCore}
 use Rattle.calls.proofs.Ready.{layout-is}
 use Rattle.layout.specs.declared.Layout.{Layout}
-use Rattle.layout.specs.Numbers.{allPassOf, shortDelayOf}
+use Rattle.layout.specs.Numbers.{allPassOf}
 use Rattle.layout.proofs.Bounds.{bounds}
 use Rattle.lists.specs.Part.{part}
 use Rattle.planar.specs.Window.{historyOf}
-use Rattle.ps_decorr.specs.State.{freshDecorr, resetFrom}
+use Rattle.ps_decorr.specs.State.{freshDecorr, longOwner, shortOwner, delaysReset, resetFrom}
+use Rattle.ps_decorr_allpass.specs.Memory.{silencedFrom}
+use Rattle.ps_decorr_allpass.proofs.Silenced.{silenced-length}
+use Rattle.ps_decorr_allpass.specs.Memory.{ownerOf}
 use Rattle.ps_stereo.specs.State.{switchedTo}
 use Rattle.standard.specs.Core.{Core, Head, sameLayout, remapped, switched, clearFrom, cleared, ready}
 use Rattle.standard.specs.Channel.{silent}
@@ -25,7 +30,6 @@ use Rattle.ps_state.specs.Ready.{switchedFrom, clearedPlace, readied}
 use Rattle.ps_state.specs.Shape.{Shaped}
 use Rattle.ps_state.proofs.Images.{part-repeated, held-silent}
 use Rattle.ps_state.proofs.Stored.{fresh-detector}
-use Rattle.ps_state.proofs.Cleared.{cleared-length}
 use Rattle.ps_state.proofs.Channels.{Sized, fresh-sized, near-cleared, near-renewed}
 use Rattle.ps_state.proofs.Remapped.{remapped-length, remapped-kept}
 
@@ -124,15 +128,22 @@ near-readied s head shape = go (sameLayout (s .layout) (head .layout)) refl
 
 -- ---- the lengths
 
+delays-reset-length : (l : Layout) (place : ℕ) (delays : List Float) → length (delaysReset l place delays) ≡ length delays
+delays-reset-length l place delays = go (ltb place (allPassOf l))
+  where
+    go : (t : Bool) → length (cond t (silencedFrom ownerOf place delays) delays) ≡ length delays
+    go true = silenced-length ownerOf place delays
+    go false = refl
+
 reset-shaped : (l : Layout) (edge : ℕ) (t : PsDecoder) → Shaped t → Shaped (resetIn l edge t)
 unfolding resetFrom
 reset-shaped l edge t shape =
     let place = clearedPlace l edge (t .cued) in
     record {
       history = shape .history;
-      delays = cleared-length (28 * min place 50) (t .decorr .delays) (omega (arith, shape .delays)) ∙ shape .delays;
-      long = cleared-length (28 * min (place - allPassOf l) 12) (t .decorr .long) (omega (arith, shape .long)) ∙ shape .long;
-      short = cleared-length (2 * min (place - shortDelayOf l) 29) (t .decorr .short) (omega (arith, shape .short)) ∙ shape .short;
+      delays = delays-reset-length l place (t .decorr .delays) ∙ shape .delays;
+      long = silenced-length (longOwner l) place (t .decorr .long) ∙ shape .long;
+      short = silenced-length (shortOwner l) place (t .decorr .short) ∙ shape .short;
       detectors = shape .detectors;
       matrices = shape .matrices;
       phases = shape .phases;

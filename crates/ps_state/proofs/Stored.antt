@@ -1,6 +1,6 @@
 -- The numbers of a decoder that hold a state give it back as far as its delays reach, and those of a fresh decoder give the fresh state. Assumes nothing.
 use Prim.Native.Nat.{ℕ, _+_, _-_, _*_, _<_, _≤_}
-use mathlib.Core.Path.{_≡_, refl, sym, subst, ap, _∙_}
+use mathlib.Core.Path.{_≡_, refl, sym, ap, _∙_}
 use mathlib.Core.Bool.{Bool, true, false}
 use mathlib.Core.List.{List}
 use native.Mathlib.Omega.{arith}
@@ -11,49 +11,53 @@ use lib.Ieee.{Float, nan}
 use lib.ListN.{length, getD, replicate, length-append, length-replicate, getD-replicate}
 use Rattle.borders.specs.Borders.{slotsOf}
 use Rattle.calls.specs.Call.{Playing, fresh}
-use Rattle.calls.specs.Near.{NearChannel, NearCore, Near}
+use Rattle.calls.specs.Near.{Alike, NearChannel, NearCore, Near}
 use Rattle.complex.specs.declared.Complex.{Complex}
 use Rattle.layout.specs.declared.Layout.{Layout}
 use Rattle.layout.specs.declared.Layout.the-variants.{Bands20}
 use Rattle.layout.specs.Numbers.{splitOf, bandsOf, channelsOf, allPassOf, shortDelayOf}
 use Rattle.layout.proofs.Bounds.{bounds}
 use Rattle.lists.specs.Part.{part}
-use Rattle.lists.specs.Rows.{rows}
-use Rattle.lists.proofs.Maps.{tabulate-length}
-use Rattle.lists.proofs.Rows.{rows-length}
-use Rattle.planar.specs.Cells.{overwritten}
+use Rattle.lists.specs.Ring.{age}
+use Rattle.lists.proofs.Maps.{tabulate-length, tabulate-at}
+use Rattle.lists.proofs.Ring.{age-small}
+use Rattle.planar.specs.Cells.{cell, overwritten}
 use Rattle.planar.specs.Frame.{keptMatrix, numbersOf, ipdOf, opdOf}
+use Rattle.planar.specs.Rings.{ringCell, longPast, shortPast}
 use Rattle.planar.specs.Window.{imageOf}
+use Rattle.planar.proofs.Cells.{by-parts}
+use Rattle.planar.proofs.Rings.{ringed-back, ringed-ring}
 use Rattle.ps_decorr.specs.Channels.{channelIn, longWith, shortWith, detectorsWith}
-use Rattle.ps_decorr_allpass.specs.Memory.{channelOf, memoryOf, delaysWith}
+use Rattle.ps_decorr.proofs.Held.{short-length, short-held, long-length, long-held}
+use Rattle.ps_decorr_allpass.specs.Memory.{laneOf, channelOf, delaysWith}
+use Rattle.ps_decorr_allpass.proofs.Places.{placeOf, lane-at, lane-held}
+use Rattle.ps_decorr_allpass.proofs.Rings.{cell-silent}
 use Rattle.ps_decorr_transient.specs.Gains.{detectorOf}
 use Rattle.ps_stereo.specs.declared.PsStereo.{PsStereo}
 use Rattle.ps_stereo.specs.State.{freshStereo}
 use Rattle.ps_stereo.specs.Kept.{keptIn, stereoWith}
-use Rattle.standard.specs.Channel.{Channel, silent}
+use Rattle.standard.specs.Channel.{Channel, silent, back}
 use Rattle.standard.specs.Core as core
 use Rattle.standard.specs.Detector.{Detector, calm}
 use Rattle.standard.specs.Mixing.{Kept, noMatrix, freshKept}
-use Rattle.standard.specs.Numbers.{zero}
+use Rattle.standard.specs.Numbers.{zero, nought}
 use Rattle.ps_state.specs.declared.PsDecoder.{PsDecoder}
 use Rattle.ps_state.specs.Shape.{Shaped}
-use Rattle.ps_state.specs.State.{freshDecoder, coreOf, playingOf, historyWith, stored}
-use Rattle.ps_state.proofs.Images.{row-part, laid-length, laid-part, part-repeated, image-length, Held, held-image, held-silent, Chained, memory-length, memory-chained, silent-chained, detectors-at, ipd-at, opd-at}
+use Rattle.ps_state.specs.State.{freshDecoder, coreOf, playingOf, historyWith, turnAfter, stored}
+use Rattle.ps_state.proofs.Images.{laid-length, laid-part, part-repeated, image-length, Held, held-image, held-silent, Chained, rings-chained, detectors-at, ipd-at, opd-at}
 
--- ---- the layouts' numbers: the places of 50 chains, 12 long delays, 29 short ones, 5 split bands and 34 stereo bands suffice
+-- ---- a channel is near where the cells that hold it are
 
--- ---- a channel is near where the numbers that hold it are
-
-pub near-channel : (l : Layout) (k : ℕ) (delays long short : List Float) (c : Channel)
-    → (k < allPassOf l → Chained (channelOf (part (28 * k) 28 delays)) c)
-    → (allPassOf l ≤ k → k < shortDelayOf l → Held 14 (part (28 * (k - allPassOf l)) 28 long) (c .past))
-    → (shortDelayOf l ≤ k → Held 1 (part (2 * (k - shortDelayOf l)) 2 short) (c .past))
-    → NearChannel l k (channelIn l delays long short k) c
+pub near-channel : (l : Layout) (k t : ℕ) (delays long short : List Float) (c : Channel)
+    → (k < allPassOf l → Chained (channelOf t (laneOf delays k)) c)
+    → (allPassOf l ≤ k → k < shortDelayOf l → Alike 14 (longPast t long (k - allPassOf l)) (c .past))
+    → (shortDelayOf l ≤ k → Alike 1 (shortPast short (k - shortDelayOf l)) (c .past))
+    → NearChannel l k (channelIn l t delays long short k) c
 unfolding channelIn
-near-channel l k delays long short c chain far close = go (ltb k (allPassOf l)) (ltb k (shortDelayOf l)) refl refl
+near-channel l k t delays long short c chain far close = go (ltb k (allPassOf l)) (ltb k (shortDelayOf l)) refl refl
   where
-    go : (s t : Bool) → ltb k (allPassOf l) ≡ s → ltb k (shortDelayOf l) ≡ t → NearChannel l k (channelIn l delays long short k) c
-    go true t e f =
+    go : (s u : Bool) → ltb k (allPassOf l) ≡ s → ltb k (shortDelayOf l) ≡ u → NearChannel l k (channelIn l t delays long short k) c
+    go true u e f =
         let here : k < allPassOf l = ltb-true k (allPassOf l) e in
         record {
           past = rw e (chain here .past);
@@ -91,42 +95,22 @@ module _ (l : Layout) (past : ℕ → List Complex) (old : List Float) (long : l
       held-image 6 (part (12 * p) 12 (historyWith l past old)) (past p)
       (laid-part 12 (splitOf l) 5 (λ p. imageOf 6 (past p)) old (λ p. image-length 6 (past p)) long (bounds l .split) p u)
 
-module _ (l : Layout) (channel : ℕ → Channel) where
-  module _ (old : List Float) (long : length old ≡ 1400) where
-    delays-length : length (delaysWith l channel old) ≡ 1400
-    unfolding delaysWith
-    delays-length = laid-length 28 (allPassOf l) 50 (λ k. memoryOf (channel k)) old (λ k. memory-length (channel k)) long
-
-    delays-chained : (k : ℕ) → k < allPassOf l → Chained (channelOf (part (28 * k) 28 (delaysWith l channel old))) (channel k)
-    unfolding delaysWith
-    delays-chained k u =
-        subst (λ (m : List Float). Chained (channelOf m) (channel k))
-        (sym (laid-part 28 (allPassOf l) 50 (λ k. memoryOf (channel k)) old (λ k. memory-length (channel k)) long (bounds l .all-pass) k u))
-        (memory-chained (channel k))
-
-  -- delays of d slots of the channels from one on, n of them
-  module _ (d from n : ℕ) where
-    abbrev delayed : List Float
-    delayed = rows (λ j. imageOf d (channel (from + j) .past)) n
-
-    delayed-length : length delayed ≡ n * (d + d)
-    delayed-length = rows-length (λ j. imageOf d (channel (from + j) .past)) (d + d) n (λ j u. image-length d (channel (from + j) .past))
-
-    delayed-held : (k : ℕ) → from ≤ k → k < from + n → Held d (part ((d + d) * (k - from)) (d + d) delayed) (channel k .past)
-    delayed-held k h u =
-        let same : from + (k - from) ≡ k = omega arith in
-        held-image d (part ((d + d) * (k - from)) (d + d) delayed) (channel k .past)
-        (row-part (λ j. imageOf d (channel (from + j) .past)) (d + d) n (λ j v. image-length d (channel (from + j) .past)) (k - from) (omega arith)
-        ∙ ap (λ (m : ℕ). imageOf d (channel m .past)) same)
-
-  channel-near : (old : List Float) → length old ≡ 1400 → (k : ℕ) → k < channelsOf l
-      → NearChannel l k (channelIn l (delaysWith l channel old) (longWith l channel) (shortWith l channel) k) (channel k)
-  unfolding longWith shortWith
-  channel-near old long k u =
-      near-channel l k (delaysWith l channel old) (longWith l channel) (shortWith l channel) (channel k)
-      (delays-chained old long k)
-      (λ h v. delayed-held 14 (allPassOf l) 12 k h (omega (arith, bounds l .short)))
-      (λ h. delayed-held 1 (shortDelayOf l) 29 k h (omega (arith, bounds l .last)))
+channel-near : (l : Layout) (t : ℕ) (channel : ℕ → Channel) (old : List Float) → length old ≡ 1456 → (k : ℕ) → k < channelsOf l
+    → NearChannel l k (channelIn l t (delaysWith l t channel old) (longWith l t channel) (shortWith l channel) k) (channel k)
+channel-near l t channel old long k u =
+    let n = bounds l in
+    near-channel l k t (delaysWith l t channel old) (longWith l t channel) (shortWith l channel) (channel k)
+    (λ v. rings-chained t (laneOf (delaysWith l t channel old) k) (channel k) (λ j w. lane-held k j w l t channel old long v))
+    (λ h v.
+    let same : allPassOf l + (k - allPassOf l) ≡ k = omega arith in
+    ringed-ring 14 t (λ r. cell 1 (longWith l t channel) (24 * r + 2 * (k - allPassOf l))) (channel k .past)
+    (λ r w. long-held l channel t r (k - allPassOf l) w (omega (arith, n .short)) ∙ ap (λ (m : ℕ). ringCell 14 t (channel m .past) r) same))
+    (λ h i v.
+    let same : shortDelayOf l + (k - shortDelayOf l) ≡ k = omega arith in
+    tabulate-at (λ i. cell 1 (shortWith l channel) (2 * (k - shortDelayOf l))) 1 i nought v
+    ∙ short-held l channel (k - shortDelayOf l) (omega (arith, n .last))
+    ∙ ap (λ (m : ℕ). back 0 (channel m .past)) same
+    ∙ ap (λ (m : ℕ). back m (channel k .past)) (omega arith))
 
 module _ (l : Layout) (detector : ℕ → Detector) (old : List Float) where
   detectors-length : length (detectorsWith l detector old) ≡ 102
@@ -179,12 +163,12 @@ module _ (l : Layout) (kept : ℕ → Kept) (old : PsStereo) (long : length (old
 
 module _ (old : PsDecoder) (s : Playing) (shape : Shaped old) where
   pub shaped-stored : Shaped (stored old s)
-  unfolding stored longWith shortWith
+  unfolding stored delaysWith
   shaped-stored =
       record {
-        delays = delays-length (s .core .layout) (s .core .channel) (old .decorr .delays) (shape .delays);
-        long = delayed-length (s .core .layout) (s .core .channel) 14 (allPassOf (s .core .layout)) 12;
-        short = delayed-length (s .core .layout) (s .core .channel) 1 (shortDelayOf (s .core .layout)) 29;
+        delays = tabulate-length _ (length (old .decorr .delays)) ∙ shape .delays;
+        long = long-length (s .core .layout) (s .core .channel) (turnAfter old (s .slots));
+        short = short-length (s .core .layout) (s .core .channel);
         detectors = detectors-length (s .core .layout) (s .core .detector) (old .decorr .detectors);
         matrices = matrices-length (s .core .layout) (s .core .kept) (old .stereo) (shape .matrices);
         phases = phases-length (s .core .layout) (s .core .kept) (old .stereo) (shape .matrices);
@@ -197,7 +181,7 @@ module _ (old : PsDecoder) (s : Playing) (shape : Shaped old) where
       record {
         layout = refl;
         cued = refl;
-        channel = channel-near (s .core .layout) (s .core .channel) (old .decorr .delays) (shape .delays);
+        channel = channel-near (s .core .layout) (turnAfter old (s .slots)) (s .core .channel) (old .decorr .delays) (shape .delays);
         detector = detector-held (s .core .layout) (s .core .detector) (old .decorr .detectors);
         kept = kept-held (s .core .layout) (s .core .kept) (old .stereo) (shape .matrices);
       }
@@ -214,13 +198,30 @@ module _ (old : PsDecoder) (s : Playing) (shape : Shaped old) where
 
 -- ---- a fresh decoder
 
-fresh-channel : (k : ℕ) → k < channelsOf Bands20
-    → NearChannel Bands20 k (channelIn Bands20 (replicate 1400 zero) (replicate 336 zero) (replicate 58 zero) k) silent
-fresh-channel k u =
-    near-channel Bands20 k (replicate 1400 zero) (replicate 336 zero) (replicate 58 zero) silent
-    (λ h. subst (λ (m : List Float). Chained (channelOf m) silent) (sym (part-repeated (28 * k) 28 1400 zero (omega arith))) silent-chained)
-    (λ h v. held-silent 14 (part (28 * (k - 30)) 28 (replicate 336 zero)) (part-repeated (28 * (k - 30)) 28 336 zero (omega arith)))
-    (λ h. held-silent 1 (part (2 * (k - 42)) 2 (replicate 58 zero)) (part-repeated (2 * (k - 42)) 2 58 zero (omega arith)))
+-- silent cells hold silence, after any number of slots
+pub near-quiet : (l : Layout) (k t : ℕ) (delays long short : List Float)
+    → (k < allPassOf l → (j : ℕ) → j < 14 → laneOf delays k j ≡ nought)
+    → (allPassOf l ≤ k → k < shortDelayOf l → (r : ℕ) → r < 14 → cell 1 long (24 * r + 2 * (k - allPassOf l)) ≡ nought)
+    → (shortDelayOf l ≤ k → cell 1 short (2 * (k - shortDelayOf l)) ≡ nought)
+    → NearChannel l k (channelIn l t delays long short k) silent
+near-quiet l k t delays long short chain far close =
+    near-channel l k t delays long short silent
+    (λ u. rings-chained t (laneOf delays k) silent (λ j v. chain u j v ∙ sym (cell-silent t j)))
+    (λ u v i w.
+    ringed-back 14 t (λ r. cell 1 long (24 * r + 2 * (k - allPassOf l))) i w ∙ far u v (age 14 t i) (age-small 14 t i (omega arith)))
+    (λ u i v. tabulate-at (λ i. cell 1 short (2 * (k - shortDelayOf l))) 1 i nought v ∙ close u)
+
+zeros-at : (n apart at : ℕ) → at + apart < n → cell apart (replicate n zero) at ≡ nought
+zeros-at n apart at room = by-parts (getD-replicate n at zero nan (omega arith)) (getD-replicate n (at + apart) zero nan room)
+
+pub near-silent : (l : Layout) (k : ℕ) → k < channelsOf l
+    → NearChannel l k (channelIn l 0 (replicate 1456 zero) (replicate 336 zero) (replicate 58 zero) k) silent
+near-silent l k u =
+    let n = bounds l in
+    near-quiet l k 0 (replicate 1456 zero) (replicate 336 zero) (replicate 58 zero)
+    (λ v j w. lane-at k j w (replicate 1456 zero) ∙ zeros-at 1456 4 (placeOf k j) (omega (arith, n .all-pass)))
+    (λ v w r x. zeros-at 336 1 (24 * r + 2 * (k - allPassOf l)) (omega (arith, n .short)))
+    (λ v. zeros-at 58 1 (2 * (k - shortDelayOf l)) (omega (arith, n .last)))
 
 pub fresh-detector : (b : ℕ) → b < 34 → detectorOf (replicate 102 zero) b ≡ calm
 fresh-detector b u = λ i. record { peak = at b (omega arith) i; smooth = at (b + 34) (omega arith) i; difference = at (b + 68) (omega arith) i }
@@ -247,7 +248,7 @@ module _ (asked : ℕ) where
   pub shaped-fresh : Shaped (freshDecoder asked)
   shaped-fresh =
       record {
-        delays = length-replicate 1400 zero;
+        delays = length-replicate 1456 zero;
         long = length-replicate 336 zero;
         short = length-replicate 58 zero;
         detectors = length-replicate 102 zero;
@@ -267,7 +268,7 @@ module _ (asked : ℕ) where
             record {
               layout = refl;
               cued = refl;
-              channel = fresh-channel;
+              channel = near-silent Bands20;
               detector = λ b u. fresh-detector b (omega arith);
               kept = λ b u. fresh-kept b (omega arith);
             };

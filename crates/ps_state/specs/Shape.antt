@@ -7,7 +7,7 @@ use Rattle.ps_state.specs.declared.PsDecoder.{PsDecoder}
 
 pub record Shaped (s : PsDecoder) : Type 0 where
   pub history : length (s .history) ≡ 60
-  pub delays : length (s .decorr .delays) ≡ 1400
+  pub delays : length (s .decorr .delays) ≡ 1456
   pub long : length (s .decorr .long) ≡ 336
   pub short : length (s .decorr .short) ≡ 58
   pub detectors : length (s .decorr .detectors) ≡ 102
@@ -17,7 +17,7 @@ pub record Shaped (s : PsDecoder) : Type 0 where
 -- those of the arrays that are lent
 pub record Lent (history delays long short detectors : List Float) : Type 0 where
   pub history-long : length history ≡ 60
-  pub delays-long : length delays ≡ 1400
+  pub delays-long : length delays ≡ 1456
   pub long-long : length long ≡ 336
   pub short-long : length short ≡ 58
   pub detectors-long : length detectors ≡ 102

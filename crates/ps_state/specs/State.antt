@@ -1,5 +1,5 @@
 -- What the carried numbers say: the state of a decoder as the definitions have it, and the numbers that hold such a state. Assumes nothing.
-use Prim.Native.Nat.{ℕ, _*_}
+use Prim.Native.Nat.{ℕ, _+_, _*_, _%_}
 use mathlib.Core.Bool.{false, cond}
 use mathlib.Core.List.{List}
 use lib.Dec.{ltb}
@@ -35,13 +35,13 @@ decoderOf s history delays long short detectors =
       cued = s .cued;
       lines = s .lines;
       history = history;
-      decorr = decorrOf delays long short detectors;
+      decorr = decorrOf (s .turn) delays long short detectors;
       stereo = s .stereo;
     }
 
 -- what is small in a state
 abbrev pub carriedOf : PsDecoder → PsCarried
-carriedOf s = record { asked = s .asked; layout = s .layout; cued = s .cued; lines = s .lines; stereo = s .stereo }
+carriedOf s = record { asked = s .asked; layout = s .layout; cued = s .cued; lines = s .lines; stereo = s .stereo; turn = s .decorr .turn }
 
 -- every delay silent, every detector calm, no coefficients, no rows
 abbrev pub freshDecoder : ℕ → PsDecoder
@@ -63,7 +63,7 @@ coreOf s =
     record {
       layout = s .layout;
       cued = s .cued;
-      channel = channelIn (s .layout) (s .decorr .delays) (s .decorr .long) (s .decorr .short);
+      channel = channelIn (s .layout) (s .decorr .turn) (s .decorr .delays) (s .decorr .long) (s .decorr .short);
       detector = detectorOf (s .decorr .detectors);
       kept = keptIn (s .stereo);
     }
@@ -82,9 +82,14 @@ playingOf s =
 unfoldable pub historyWith : Layout → (ℕ → List Complex) → List Float → List Float
 historyWith l past old = rows (λ p. cond (ltb p (splitOf l)) (imageOf 6 (past p)) (part (12 * p) 12 old)) 5
 
+-- the slots so far, after a frame more
+abbrev pub turnAfter : PsDecoder → ℕ → ℕ
+turnAfter old slots = (old .decorr .turn + slots) % 420
+
 unfoldable pub stored : PsDecoder → Playing → PsDecoder
 stored old s =
     let l = s .core .layout in
+    let turn = turnAfter old (s .slots) in
     record {
       asked = old .asked;
       layout = l;
@@ -93,8 +98,9 @@ stored old s =
       history = historyWith l (s .past) (old .history);
       decorr =
           record {
-            delays = delaysWith l (s .core .channel) (old .decorr .delays);
-            long = longWith l (s .core .channel);
+            turn = turn;
+            delays = delaysWith l turn (s .core .channel) (old .decorr .delays);
+            long = longWith l turn (s .core .channel);
             short = shortWith l (s .core .channel);
             detectors = detectorsWith l (s .core .detector) (old .decorr .detectors);
           };

@@ -58,6 +58,8 @@ pub struct PsCarried {
     pub cued: bool,
     pub lines: PsLines,
     pub stereo: PsStereo,
+    // The counter of the de-correlator's rings.
+    pub turn: usize,
 }
 
 // What is small in a state.
@@ -67,12 +69,14 @@ pub fn apart(state: PsDecoder) -> PsCarried
     let layout = state.layout;
     let lines = state.lines;
     let stereo = state.stereo;
+    let decorr = state.decorr;
     PsCarried {
         asked: state.asked,
         layout: layout,
         cued: state.cued,
         lines: lines,
         stereo: stereo,
+        turn: decorr.turn,
     }
 }
 
@@ -80,7 +84,7 @@ pub fn apart(state: PsDecoder) -> PsCarried
 pub fn together(
     carried: PsCarried,
     history: [f64; 60],
-    delays: [f64; 1400],
+    delays: [f64; 1456],
     long: [f64; 336],
     short: [f64; 58],
     detectors: [f64; 102],
@@ -91,6 +95,7 @@ pub fn together(
     let lines = carried.lines;
     let stereo = carried.stereo;
     let decorr = PsDecorr {
+        turn: carried.turn,
         delays: delays,
         long: long,
         short: short,
@@ -112,7 +117,7 @@ fn switched(
     carried: PsCarried,
     layout: Layout,
     history: &mut [f64; 60],
-    delays: &mut [f64; 1400],
+    delays: &mut [f64; 1456],
     long: &mut [f64; 336],
     short: &mut [f64; 58],
     detectors: &mut [f64; 102],
@@ -125,7 +130,7 @@ fn switched(
         return carried;
     }
     *history = [0.0; 60];
-    *delays = [0.0; 1400];
+    *delays = [0.0; 1456];
     *long = [0.0; 336];
     *short = [0.0; 58];
     *detectors = [0.0; 102];
@@ -137,6 +142,7 @@ fn switched(
         cued: carried.cued,
         lines: lines,
         stereo: ps_stereo::switched(stereo, layout),
+        turn: 0,
     }
 }
 
@@ -153,7 +159,7 @@ pub fn ready(
     layout: Layout,
     edge: usize,
     history: &mut [f64; 60],
-    delays: &mut [f64; 1400],
+    delays: &mut [f64; 1456],
     long: &mut [f64; 336],
     short: &mut [f64; 58],
     detectors: &mut [f64; 102],

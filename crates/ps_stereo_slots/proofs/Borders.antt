@@ -36,11 +36,11 @@ lent-fraction fractions e n u = rw (add-sub-cancel-left (32 * e) 32) (part-at (3
 
 -- ---- the first m borders
 module _ (borders : List ℕ) (m : ℕ) where
-  start-taken : (e : ℕ) → e ≤ m → start (take m borders) e ≡ start borders e
+  pub start-taken : (e : ℕ) → e ≤ m → start (take m borders) e ≡ start borders e
   start-taken zero h = refl
   start-taken (suc e) h = ap suc (getD-take m borders e 0 h)
 
-  fraction-taken : (e n : ℕ) → e < m → fraction (take m borders) e n ≡ fraction borders e n
+  pub fraction-taken : (e n : ℕ) → e < m → fraction (take m borders) e n ≡ fraction borders e n
   unfolding fraction
   fraction-taken e n h = rw (start-taken e (omega arith), getD-take m borders e 0 h)
 

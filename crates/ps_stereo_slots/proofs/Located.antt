@@ -7,13 +7,12 @@ use native.Mathlib.Omega.{arith}
 use borrow.Author.Tests.{le-leb, lt-leb, leb-false, ltb-true, ltb-false, lt-ltb, le-ltb}
 use lib.Dec.{leb, ltb}
 use lib.Ieee.{Float}
-use lib.ListN.{length, getD}
+use lib.ListN.{length}
 use Rattle.limits.specs.Limits as limits
-use Rattle.lists.proofs.Maps.{tabulate-at}
 use Rattle.standard.specs.declared.Matrix.{Matrix}
 use Rattle.standard.specs.Interpolation.{start, borderAt, between, filledBy, matrixBy}
 use Rattle.ps_stereo_slots.specs.Slots.{bordersOf}
-use Rattle.ps_stereo_slots.specs.Envelopes.{inRegion, regionBelow, regionOf, regionsOf}
+use Rattle.ps_stereo_slots.specs.Envelopes.{inRegion, regionBelow, regionOf}
 use Rattle.ps_stereo_slots.proofs.Borders.{matrix-taken}
 
 -- ---- a slot before the last border, and one after it
@@ -48,10 +47,6 @@ region-within borders count n = by (leb (start borders count) n) (below-within b
     by : (b : Bool) → regionBelow borders n count ≤ count → cond b count (regionBelow borders n count) ≤ count
     by true u = omega arith
     by false u = u
-
-pub regions-at : (borders : List ℕ) (count n : ℕ) → n < 32 → getD (regionsOf borders count) n 0 ≡ regionOf borders (min count limits.envelopes) n
-unfolding regionsOf
-regions-at borders count n u = tabulate-at (regionOf borders (min count limits.envelopes)) 32 n 0 u
 
 -- ---- what was written there
 module _ (borders : List ℕ) (t : ℕ → ℕ → Float) (h : ℕ → Matrix) (n : ℕ) where

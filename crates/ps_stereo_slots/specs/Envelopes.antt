@@ -1,11 +1,9 @@
 -- §8.6.4.6.4: in which envelope's region a slot lies. Where borders fall back, the last region that has the slot is the one that was written last.
 -- Assumes nothing.
-use Prim.Native.Nat.{ℕ, zero, suc, min}
+use Prim.Native.Nat.{ℕ, zero, suc}
 use mathlib.Core.Bool.{Bool, cond, _&&_}
 use mathlib.Core.List.{List}
 use lib.Dec.{leb}
-use Rattle.limits.specs.Limits as limits
-use Rattle.lists.specs.Rows.{tabulate}
 use Rattle.standard.specs.Interpolation.{start, borderAt}
 
 -- from the slot after the border before envelope e to its border
@@ -20,7 +18,3 @@ regionBelow borders n (suc e) = cond (inRegion borders e n) e (regionBelow borde
 -- the same, or the number of envelopes from the slot after the last border on
 unfoldable pub regionOf : List ℕ → ℕ → ℕ → ℕ
 regionOf borders count n = cond (leb (start borders count) n) count (regionBelow borders n count)
-
--- the regions of the slots of a frame
-unfoldable pub regionsOf : List ℕ → ℕ → List ℕ
-regionsOf borders count = tabulate (regionOf borders (min count limits.envelopes)) 32

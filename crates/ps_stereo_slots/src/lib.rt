@@ -6,12 +6,19 @@ ghost use Prim.Native.Nat.{_+_, _-_, _*_, _≤_, _<_, min, max};
 ghost use lib.ListN.{length};
 ghost use Rattle.limits.specs.Limits as limits;
 ghost use Rattle.lists.specs.Part.{part};
-ghost use Rattle.lists.specs.Rows.{tabulate};
 ghost use Rattle.planar.specs.Frame.{keptMatrix};
 ghost use Rattle.standard.specs.Interpolation.{fraction};
-ghost use Rattle.ps_stereo_slots.specs.Envelopes.{inRegion, regionBelow, regionOf, regionsOf};
+ghost use Rattle.ps_stereo_slots.specs.Envelopes.{inRegion, regionBelow, regionOf};
 ghost use Rattle.ps_stereo_slots.specs.Slots.{fractionsAfter, runsAfter};
 ghost use Rattle.ps_stereo_slots.specs.Regions.{stepOf, stepped, storedMatrix, Written, Started, interpolated, filledFractions, heldAfter};
+
+// When a frame is: the borders of its envelopes, how many envelopes there are, its slots, and how many slots came before it.
+pub struct Timing {
+    pub borders: [u8; limits::ENVELOPES],
+    pub count: usize,
+    pub slots: usize,
+    pub turn: usize,
+}
 
 // ---- how far a slot lies on its way
 
@@ -73,6 +80,17 @@ pub fn fractions(borders: [u8; limits::ENVELOPES], count: usize, out: &mut [f64;
     fill(borders, envelopes, out);
 }
 
+// The last envelope that a frame can have.
+const LAST: usize = limits::ENVELOPES - 1;
+
+// How far slot n, which is one of 32, lies on its way in the region of envelope e.
+pub fn share_in(timing: Timing, e: usize, n: usize) -> f64
+    ensures { λ r. ⌜ r ≡ fraction (timing .borders) (min e (limits.envelopes - 1)) (min n 31) ⌝ }
+{
+    let borders = timing.borders;
+    fraction_of(borders, limits::least(e, LAST), limits::least(n, 31))
+}
+
 // ---- where a slot lies
 
 // Whether slot n lies in the region of envelope e.
@@ -114,21 +132,13 @@ fn region_at(borders: [u8; limits::ENVELOPES], count: usize, n: usize) -> u8
     count as u8
 }
 
-fn fill_regions(borders: [u8; limits::ENVELOPES], count: usize, out: &mut [u8])
-    requires { ⌜ (count ≤ limits.envelopes) × (length (now out) ≡ 32) ⌝ }
-    ensures { λ _. ⌜ now (out .exit) ≡ tabulate (regionOf borders count) 32 ⌝ }
+// The region of slot n, which is one of 32: the last envelope whose region has it, or how many envelopes there are behind their borders.
+pub fn region_in(timing: Timing, n: usize) -> usize
+    ensures { λ r. ⌜ r ≡ regionOf (timing .borders) (min (timing .count) limits.envelopes) (min n 31) ⌝ }
 {
-    for n in 0..32 {
-        out[n] = region_at(borders, count, n);
-    }
-}
-
-// The region of each slot, the same for every band: made once a frame.
-pub fn regions(borders: [u8; limits::ENVELOPES], count: usize, out: &mut [u8; 32])
-    ensures { λ _. ⌜ now (out .exit) ≡ regionsOf borders count ⌝ }
-{
-    let envelopes = limits::least(count, limits::ENVELOPES);
-    fill_regions(borders, envelopes, out);
+    let borders = timing.borders;
+    let count = limits::least(timing.count, limits::ENVELOPES);
+    limits::wide(region_at(borders, count, limits::least(n, 31)))
 }
 
 // ---- coefficients

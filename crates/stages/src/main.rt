@@ -5,6 +5,7 @@
 mod compare;
 mod frame;
 mod mix;
+mod plain;
 mod play;
 mod ready;
 mod say;

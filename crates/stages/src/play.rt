@@ -2,6 +2,7 @@
 use super::compare;
 use super::compare::Compared;
 use super::frame::Checked;
+use super::plain;
 use super::sound;
 use cue::Header;
 use layout::Layout;
@@ -10,33 +11,41 @@ use ps_data::Resolved;
 use ps_decorr::PsDecorr;
 use ps_state::PsDecoder;
 use ps_stereo::PsStereo;
+use ps_stereo_slots::Timing;
 ghost use mathlib.Core.Path.{_≡_};
 ghost use Prim.Native.Nat.{_≤_};
 ghost use lib.ListN.{length};
 
 // A frame up to de-correlation of its all-pass channels, before ducking.
 struct Heard {
+    turn: usize,
     history: [f64; 60],
-    delays: [f64; 1400],
+    delays: [f64; 1456],
     detectors: [f64; 102],
     samples: [f64; 3200],
     gains: [f64; 1088],
     decorrelated: [f64; 3200],
 }
 
-fn hear(state: PsDecoder, slots: usize, input: &[f64]) -> Heard {
+fn hear(state: PsDecoder, slots: usize, input: &[f64]) -> Heard
+    requires { ⌜ slots ≤ 32 ⌝ }
+{
     let layout = state.layout;
     let mut history = state.history;
-    let mut samples = [0.0; 3200];
-    ps_hybrid_analysis::analyse(layout, state.asked, &mut history, input, &mut samples);
+    let mut split = [0.0; 2048];
+    ps_hybrid_analysis::analyse(layout, state.asked, &mut history, input, &mut split);
     let decorr = state.decorr;
     let mut detectors = decorr.detectors;
     let mut gains = [0.0; 1088];
-    ps_decorr_transient::duck(layout, &mut detectors, &samples, input, slots, &mut gains);
+    ps_decorr_transient::duck(layout, &mut detectors, &split, input, slots, &mut gains);
+    let mut samples = [0.0; 3200];
+    plain::samples(layout, &split, input, slots, &mut samples);
     let mut delays = decorr.delays;
+    let turn = decorr.turn % 420;
     let mut out = [0.0; 3200];
-    sound::decorrelate(layout, &mut delays, &samples, slots, &mut out);
+    sound::decorrelate(layout, turn, &samples, slots, &mut delays, &mut out);
     Heard {
+        turn: (turn + slots) % 420,
         history: history,
         delays: delays,
         detectors: detectors,
@@ -100,40 +109,50 @@ fn after(
 // The plain delays over their memory, into the frame's rows of both sides.
 fn delays(
     layout: Layout,
-    borders: [u8; limits::ENVELOPES],
-    envelopes: usize,
+    timing: Timing,
     input: &[f64],
     gains: &[f64; 1088],
     rows: &[f64; limits::MATRICES],
     long: &mut [f64; 336],
     short: &mut [f64; 58],
-    slots: usize,
     left: &mut [f64],
     right: &mut [f64],
 )
-    requires { ⌜ (slots ≤ 32) × ((length (now left) ≡ 4096) × (length (now right) ≡ 4096)) ⌝ }
+    requires { ⌜ (timing .slots ≤ 32) × ((length (now left) ≡ 4096) × (length (now right) ≡ 4096)) ⌝ }
 {
-    let numbers = 128 * slots;
+    let numbers = 128 * timing.slots;
     ps_delay_channels::delay_channels(
         layout,
-        borders,
-        envelopes,
+        timing,
         input,
         gains,
         rows,
         long,
         short,
-        slots,
         &mut left[0..numbers],
         &mut right[0..numbers],
     );
 }
 
+// When a frame is.
+fn timing(state: PsDecoder, header: Header, positions: [u8; limits::ENVELOPES]) -> Timing
+    ensures { λ r. ⌜ r .slots ≤ 32 ⌝ }
+{
+    let envelopes = header.envelopes as usize;
+    let borders = borders::borders(state.asked, header.variable, envelopes, positions);
+    let decorr = state.decorr;
+    Timing {
+        borders: borders,
+        count: envelopes,
+        slots: borders::slots(state.asked),
+        turn: decorr.turn,
+    }
+}
+
 // Both sides in QMF rows: the all-pass channels, then the plain delays.
 fn synthesise(
-    state: PsDecoder,
-    header: Header,
-    positions: [u8; limits::ENVELOPES],
+    layout: Layout,
+    timing: Timing,
     input: &[f64],
     gains: &[f64; 1088],
     rows: &[f64; limits::MATRICES],
@@ -143,26 +162,12 @@ fn synthesise(
     short: &mut [f64; 58],
     left: &mut [f64; 4096],
     right: &mut [f64; 4096],
-) {
-    let layout = state.layout;
-    let envelopes = header.envelopes as usize;
-    let borders = borders::borders(state.asked, header.variable, envelopes, positions);
-    let slots = borders::slots(state.asked);
-    sound::synthesise(layout, lefts, slots, left);
-    sound::synthesise(layout, rights, slots, right);
-    delays(
-        layout,
-        borders,
-        envelopes,
-        input,
-        gains,
-        rows,
-        long,
-        short,
-        slots,
-        left,
-        right,
-    );
+)
+    requires { ⌜ timing .slots ≤ 32 ⌝ }
+{
+    plain::synthesise(layout, lefts, timing.slots, left);
+    plain::synthesise(layout, rights, timing.slots, right);
+    delays(layout, timing, input, gains, rows, long, short, left, right);
 }
 
 // A frame of the asked slots against the stream, stage by stage.
@@ -221,10 +226,10 @@ pub fn play(ready: PsDecoder, header: Header, resolved: Resolved, input: &[f64])
     let mut short = decorr.short;
     let mut left = [0.0; 4096];
     let mut right = [0.0; 4096];
+    let timing = timing(ready, header, positions);
     synthesise(
-        ready,
-        header,
-        positions,
+        layout,
+        timing,
         input,
         &gains,
         &rows,
@@ -251,6 +256,7 @@ pub fn play(ready: PsDecoder, header: Header, resolved: Resolved, input: &[f64])
     let delays = heard.delays;
     let detectors = heard.detectors;
     let memory = PsDecorr {
+        turn: heard.turn,
         delays: delays,
         long: long,
         short: short,

@@ -1,5 +1,6 @@
 // The stages of a frame, each over all of its all-pass channels, so that every stage's numbers stand whole before the next. The channels above those are
 // QMF bands, which go straight from the input to both sides.
+use super::plain;
 use layout::Layout;
 ghost use mathlib.Core.Path.{_≡_};
 ghost use Prim.Native.Nat.{_+_, _*_, _≤_, _<_};
@@ -21,76 +22,70 @@ fn band_of(layout: Layout, k: usize) -> usize
     map[k] as usize
 }
 
-// A channel's run, to and from its place in a list of all channels.
-fn put(run: &[f64; 64], out: &mut [f64])
-    requires { ⌜ length (now out) ≡ 64 ⌝ }
-{
-    for i in 0..64 {
-        out[i] = run[i];
-    }
-}
-
-fn taken(hybrid: &[f64], at: usize) -> [f64; 64]
-    requires { ⌜ at + 64 ≤ length (now hybrid) ⌝ }
-{
-    let mut run = [0.0; 64];
-    for i in 0..64 {
-        run[i] = hybrid[at + i];
-    }
-    run
-}
-
 // One channel.
 fn one(
     table: &[i64],
     layout: Layout,
     k: usize,
-    delays: &mut [f64; 1400],
-    samples: &[f64; 3200],
+    turn: usize,
+    samples: &[f64],
     slots: usize,
+    delays: &mut [f64],
     out: &mut [f64],
 )
-    requires { ⌜ (k < 50) × (length (now out) ≡ 3200) ⌝ }
+    requires { ⌜ (k < 50) × ((turn < 420) × ((slots ≤ 32) × (length (now samples) ≡ 3200))) ⌝ }
+    requires { ⌜ (length (now delays) ≡ 1456) × (length (now out) ≡ 3200) ⌝ }
 {
-    let mut run = [0.0; 64];
     let chain = ps_decorr_allpass::chain(layout, k, table);
-    ps_decorr_allpass::all_pass(chain, delays, samples, k, slots, &mut run);
     let at = 64 * k;
-    put(&run, &mut out[at..at + 64]);
+    plain::all_pass(
+        chain,
+        k,
+        turn,
+        &samples[at..at + 64],
+        slots,
+        delays,
+        &mut out[at..at + 64],
+    );
 }
 
 // De-correlation before ducking, with the layout's rotations.
 fn decorrelate_with(
     table: &[i64],
     layout: Layout,
-    delays: &mut [f64; 1400],
-    samples: &[f64; 3200],
+    turn: usize,
+    samples: &[f64],
     slots: usize,
+    delays: &mut [f64],
     out: &mut [f64],
 )
-    requires { ⌜ length (now out) ≡ 3200 ⌝ }
+    requires { ⌜ (turn < 420) × ((slots ≤ 32) × (length (now samples) ≡ 3200)) ⌝ }
+    requires { ⌜ (length (now delays) ≡ 1456) × (length (now out) ≡ 3200) ⌝ }
 {
     let passes = passes_of(layout);
     for k in 0..passes {
-        one(table, layout, k, delays, samples, slots, out);
+        one(table, layout, k, turn, samples, slots, delays, out);
     }
 }
 
 pub fn decorrelate(
     layout: Layout,
-    delays: &mut [f64; 1400],
+    turn: usize,
     samples: &[f64; 3200],
     slots: usize,
+    delays: &mut [f64; 1456],
     out: &mut [f64; 3200],
-) {
+)
+    requires { ⌜ (turn < 420) × (slots ≤ 32) ⌝ }
+{
     match layout {
         Layout::Bands20 => {
             let table = rotation_table::rotations_20();
-            decorrelate_with(&table, layout, delays, samples, slots, out);
+            decorrelate_with(&table, layout, turn, samples, slots, delays, out);
         }
         Layout::Bands34 => {
             let table = rotation_table::rotations_34();
-            decorrelate_with(&table, layout, delays, samples, slots, out);
+            decorrelate_with(&table, layout, turn, samples, slots, delays, out);
         }
     }
 }
@@ -110,7 +105,9 @@ fn mix_channel(
 )
     requires { ⌜ (64 * k + 64 ≤ length (now decorrelated)) × ((length (now left) ≡ 64) × (length (now right) ≡ 64)) ⌝ }
 {
-    let run = taken(decorrelated, 64 * k);
+    let at = 64 * k;
+    let mut run = [0.0; 64];
+    plain::copy(64, &decorrelated[at..at + 64], &mut run);
     let marked = ps_map::conjugated(layout, k);
     let mut one = [0.0; 64];
     let mut other = [0.0; 64];
@@ -126,8 +123,8 @@ fn mix_channel(
         &mut one,
         &mut other,
     );
-    put(&one, left);
-    put(&other, right);
+    plain::copy(64, &one, left);
+    plain::copy(64, &other, right);
 }
 
 // Every channel, with its band's coefficients in each slot.
@@ -227,31 +224,4 @@ pub fn duck(layout: Layout, gains: &[f64; 1088], slots: usize, decorrelated: &mu
     requires { ⌜ slots ≤ 32 ⌝ }
 {
     duck_all(layout, gains, slots, decorrelated);
-}
-
-// A channel's run as the first of four lanes.
-fn in_lane(hybrid: &[f64], at: usize) -> [f64; 256]
-    requires { ⌜ at + 64 ≤ length (now hybrid) ⌝ }
-{
-    let mut lanes = [0.0; 256];
-    for n in 0..32 {
-        lanes[8 * n] = hybrid[at + n];
-        lanes[8 * n + 4] = hybrid[at + n + 32];
-    }
-    lanes
-}
-
-// One side's all-pass channels into its QMF rows.
-fn synthesise_all(layout: Layout, hybrid: &[f64], slots: usize, rows: &mut [f64])
-    requires { ⌜ length (now hybrid) ≡ 3200 ⌝ }
-{
-    let passes = passes_of(layout);
-    for k in 0..passes {
-        let lanes = in_lane(hybrid, 64 * k);
-        ps_hybrid_synthesis::synthesise(layout, k, 1, &lanes, slots, rows);
-    }
-}
-
-pub fn synthesise(layout: Layout, hybrid: &[f64; 3200], slots: usize, rows: &mut [f64]) {
-    synthesise_all(layout, hybrid, slots, rows);
 }

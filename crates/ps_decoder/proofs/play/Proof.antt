@@ -9,7 +9,7 @@ use Rattle.ps_decoder.proofs.play.Tie as tie
 -- a state made ready has the slots that it had
 room : tie.Need-sound-requires
 room c κs =
-    let made = c .before .before .before .before .before .before .before .before .before .before in
+    let made = c .before .before .before .before .before .before .before in
     let laid = made .before .before .before .before .before .before in
     let s = laid .before .before .before .before in
     let asked = ap (λ (d : PsDecoder). d .asked) (made .ready .ensures) ∙ readied-asked _ _ _ in
@@ -18,7 +18,7 @@ room c κs =
 returns : tie.Need-returns
 returns c =
     let sounded = c .before .before .before .before in
-    let made = sounded .before .before .before .before .before .before .before .before .before .before .before in
+    let made = sounded .before .before .before .before .before .before .before .before in
     let laid = made .before .before .before .before .before .before in
     record {
       state = rw (← laid .layout-in .ensures, ← made .ready .ensures) (sounded .sound .ensures .0);

@@ -9,11 +9,11 @@ use Rattle.ps_decorr_transient.proofs.add_columns.Statement.{statement}
 use Rattle.ps_decorr_transient.proofs.add_columns.Tie as tie
 
 abbrev Inv-loop : tie.InvT-loop
-Inv-loop map passes channels from input slots gains₀ k₀ gains k =
-    (passes ≤ k) × (k ≤ channels) × Summed map (λ i. inColumn input (2 * (i - passes + from))) passes k slots gains₀ gains
+Inv-loop map unsplit channels from input slots gains₀ k₀ gains k =
+    (unsplit ≤ k) × (k ≤ channels) × Summed map (λ i. inColumn input (2 * (i - unsplit + from))) unsplit k slots gains₀ gains
 
 abbrev μ-loop : tie.MeasureT-loop
-μ-loop map passes channels from input slots gains₀ k₀ gains k = channels - k
+μ-loop map unsplit channels from input slots gains₀ k₀ gains k = channels - k
 
 loop-holds : tie.Need-loop-holds Inv-loop μ-loop
 loop-holds c = (omega arith, omega arith, summed-none _ _ _ _ _)

@@ -7,37 +7,24 @@ use Rattle.ps_decorr_transient.proofs.add_powers.Tie as tie
 
 add-rows-requires : tie.Need-add-rows-requires
 add-rows-requires c κs =
-    let passes = c .before .before in
-    let map = passes .before in
+    let unsplit = c .before .before in
+    let map = unsplit .before in
     let s = map .before .before .before .before .args in
-    ((search needs, (search needs, (search needs, omega (arith, passes .all-pass .ensures, numbers-fit (s .layout) .rows)))), map-banded (s .layout) _ (map .parameter-map .ensures))
-
-add-from : tie.Need-add-from
-add-from c =
-    let passes = c .before .before .before .before .before .before in
-    omega (arith, passes .all-pass .ensures, c .split .ensures, numbers-fit (passes .before .before .before .before .before .args .layout) .behind)
-
-sub-from : tie.Need-sub-from
-sub-from c =
-    let split = c .before in
-    let passes = split .before .before .before .before .before .before in
-    omega (arith, passes .all-pass .ensures, split .split .ensures, c .unsplit-from .ensures, numbers-fit (passes .before .before .before .before .before .args .layout) .unsplit)
+    ((search needs, (search needs, (search needs, omega (arith, unsplit .unsplit-from .ensures, numbers-fit (s .layout) .rows)))), map-banded (s .layout) _ (map .parameter-map .ensures))
 
 add-columns-requires : tie.Need-add-columns-requires
 add-columns-requires c κs =
-    let channels = c .before in
-    let unsplit = channels .before .before in
-    let split = unsplit .before in
-    let below = split .before .before .before in
-    let passes = below .before .before .before in
-    let map = passes .before in
+    let split = c .before in
+    let channels = split .before in
+    let below = channels .before .before .before .before in
+    let unsplit = below .before .before .before in
+    let map = unsplit .before in
     let s = map .before .before .before .before in
     let asked = s .pre in
     let fit = numbers-fit (s .args .layout) in
-    let p = passes .all-pass .ensures in
+    let p = unsplit .unsplit-from .ensures in
     let q = channels .channels .ensures in
-    let r = split .split .ensures in
-    let t = unsplit .unsplit-from .ensures in (
+    let r = split .split .ensures in (
       (omega arith, (omega (arith, below .add-rows .ensures .long), omega arith)),
       (
         (omega arith, (omega arith, omega arith)),
@@ -48,20 +35,19 @@ add-columns-requires c κs =
 returns : tie.Need-returns
 returns c =
     let above = c .before .before in
-    let channels = above .before .before in
-    let unsplit = channels .before .before in
-    let split = unsplit .before in
-    let below = split .before .before .before in
-    let passes = below .before .before .before in
-    let map = passes .before in
+    let split = above .before .before in
+    let channels = split .before in
+    let below = channels .before .before .before .before in
+    let unsplit = below .before .before .before in
+    let map = unsplit .before in
     let s = map .before .before .before .before in
-    let p = passes .all-pass .ensures in
+    let p = unsplit .unsplit-from .ensures in
     let one = (rw p at (below .add-rows .ensures)) in
-    let two = (rw (p, channels .channels .ensures, split .split .ensures, unsplit .unsplit-from .ensures) at (above .add-columns .ensures)) in
+    let two = (rw (p, channels .channels .ensures, split .split .ensures) at (above .add-columns .ensures)) in
     powers-all (s .args .layout) (s .args .samples .now) (s .args .input .now) (s .args .slots) (omega arith) (map .parameter-map .ensures) (s .pre .1 .1) one two
 
 pub add-powers-spec : {M : Type 1} → statement M
 add-powers-spec =
     tie.close
-    (tie.spec (λ c κs. search needs) (λ c κs. search needs) add-rows-requires (λ c κs. search needs) add-from (λ c κs. search needs)
-    sub-from (λ c κs. search needs) add-columns-requires (λ c. search needs) returns)
+    (tie.spec (λ c κs. search needs) (λ c κs. search needs) add-rows-requires (λ c κs. search needs) (λ c κs. search needs) add-columns-requires
+    (λ c. search needs) returns)

@@ -9,10 +9,10 @@ use Rattle.ps_decorr_transient.proofs.add_rows.Statement.{statement}
 use Rattle.ps_decorr_transient.proofs.add_rows.Tie as tie
 
 abbrev Inv-loop : tie.InvT-loop
-Inv-loop map passes samples slots gains₀ k₀ gains k = (k ≤ passes) × Summed map (λ i. inRow samples (64 * i)) 0 k slots gains₀ gains
+Inv-loop map unsplit samples slots gains₀ k₀ gains k = (k ≤ unsplit) × Summed map (λ i. inRow samples (64 * i)) 0 k slots gains₀ gains
 
 abbrev μ-loop : tie.MeasureT-loop
-μ-loop map passes samples slots gains₀ k₀ gains k = passes - k
+μ-loop map unsplit samples slots gains₀ k₀ gains k = unsplit - k
 
 loop-holds : tie.Need-loop-holds Inv-loop μ-loop
 loop-holds c = (omega arith, summed-none _ _ _ _ _)
@@ -41,7 +41,7 @@ loop-again c =
 returns : tie.Need-returns Inv-loop μ-loop
 returns c =
     let l = c .before in
-    let e : l .loop .k ≡ l .before .before .before .args .passes = omega arith in
+    let e : l .loop .k ≡ l .before .before .before .args .unsplit = omega arith in
     rw e at (l .loop .inv .1)
 
 pub add-rows-spec : {M : Type 1} → statement M

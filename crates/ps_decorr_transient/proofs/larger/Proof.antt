@@ -1,5 +1,4 @@
 -- `ps_decorr_transient::larger` meets its contract: each return is the case that the test picks. Assumes nothing.
-use mathlib.Core.Path.{refl}
 use Rattle.ps_decorr_transient.proofs.larger.Statement.{statement}
 use Rattle.ps_decorr_transient.proofs.larger.Tie as tie
 

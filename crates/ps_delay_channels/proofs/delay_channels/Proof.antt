@@ -9,26 +9,26 @@ left-here : tie.Need-returns
 left-here c =
     let counted = c .before in
     let s = counted .before .before .before .before .args in
-    left-unfit (s .layout) (s .borders) (s .count) (s .input .now) (s .gains .now) (s .rows .now) (s .long .now) (s .short .now) (s .slots) (s .left .now) (s .right .now)
+    left-unfit (s .layout) (s .timing) (s .input .now) (s .gains .now) (s .rows .now) (s .long .now) (s .short .now) (s .left .now) (s .right .now)
     (counted .least .result) (counted .least .ensures) (c .if1 .taken)
 
 right-here : tie.Need-returns-2
 right-here c =
     let counted = c .before .before in
     let s = counted .before .before .before .before .args in
-    right-unfit (s .layout) (s .borders) (s .count) (s .input .now) (s .gains .now) (s .rows .now) (s .long .now) (s .short .now) (s .slots) (s .left .now) (s .right .now)
+    right-unfit (s .layout) (s .timing) (s .input .now) (s .gains .now) (s .rows .now) (s .long .now) (s .short .now) (s .left .now) (s .right .now)
     (counted .least .result) (counted .least .ensures) (c .before .if1 .left) (c .if2 .taken)
 
 input-here : tie.Need-returns-3
 input-here c =
     let counted = c .before .before .before in
     let s = counted .before .before .before .before .args in
-    input-unfit (s .layout) (s .borders) (s .count) (s .input .now) (s .gains .now) (s .rows .now) (s .long .now) (s .short .now) (s .slots) (s .left .now) (s .right .now)
+    input-unfit (s .layout) (s .timing) (s .input .now) (s .gains .now) (s .rows .now) (s .long .now) (s .short .now) (s .left .now) (s .right .now)
     (counted .least .result) (counted .least .ensures) (c .before .before .if1 .left) (c .before .if2 .left) (c .if3 .taken)
 
 frame-requires : tie.Need-frame-requires
 frame-requires c κs =
-    let fits = c .before .before .before .before in
+    let fits = c .before .before .before .before .before in
     let counted = fits .before .before .before in
     record {
       bands = omega arith;
@@ -41,10 +41,10 @@ frame-requires c κs =
 done-here : tie.Need-returns-4
 done-here c =
     let came = c .before .before .before .before in
-    let fits = came .before .before .before .before .before in
+    let fits = came .before .before .before .before .before .before in
     let counted = fits .before .before .before in
     let s = counted .before .before .before .before .args in
-    fit (s .layout) (s .borders) (s .count) (s .input .now) (s .gains .now) (s .rows .now) (s .long .now) (s .short .now) (s .slots) (s .left .now) (s .right .now)
+    fit (s .layout) (s .timing) (s .input .now) (s .gains .now) (s .rows .now) (s .long .now) (s .short .now) (s .left .now) (s .right .now)
     (counted .least .result) (counted .least .ensures) (fits .before .before .if1 .left) (fits .before .if2 .left) (fits .if3 .left) _ _ _ _ (came .frame .ensures)
 
 pub delay-channels-spec : {M : Type 1} → statement M

@@ -1,7 +1,5 @@
--- `ps_hybrid_analysis::analyse` meets its contract: short input is refused, and otherwise the split bands and then the others are written.
--- Assumes nothing.
+-- `ps_hybrid_analysis::analyse` meets its contract: short input is refused, and otherwise the split bands are written. Assumes nothing.
 use mathlib.Core.Path.{_≡_}
-use native.Mathlib.Omega.{arith}
 use borrow.Author.Needs.{needs}
 use lib.ListN.{length}
 use Rattle.ps_hybrid_analysis.proofs.Whole.{refused, done}
@@ -16,17 +14,16 @@ short c =
 
 enough : tie.Need-returns-2
 enough c =
-    let b = c .before .before in
-    let e = b .before .before .before in
+    let e = c .before .before .before in
     let s = e .before in
     let a = s .before .before .args in
     let kept : length (a .history .now) ≡ 60 = search needs in
-    let long : length (a .samples .now) ≡ 3200 = search needs in
+    let long : length (a .samples .now) ≡ 2048 = search needs in
     rw (← s .slots .ensures)
-    (done (a .layout) (a .history .now) (a .input .now) (a .samples .now) (s .slots .result) (e .if1 .left) (b .split-bands .ensures .0) (b .split-bands .ensures .1)
-    (c .pass-bands .ensures) (omega (arith, s .slots .ensures)) kept long)
+    (done (a .layout) (a .history .now) (a .input .now) (a .samples .now) (s .slots .result) (e .if1 .left) (c .split-bands .ensures .0) (c .split-bands .ensures .1)
+    kept long)
 
 pub analyse-spec : {M : Type 1} → statement M
 analyse-spec =
     tie.close
-    (tie.spec (λ c κs. search needs) (λ c. search needs) (λ c. search needs) short (λ c κs. search needs) (λ c κs. search needs) enough)
+    (tie.spec (λ c κs. search needs) (λ c. search needs) (λ c. search needs) short (λ c κs. search needs) enough)

@@ -22,7 +22,7 @@ taps-requires c κs =
 channel-requires : tie.Need-channel-requires
 channel-requires c κs =
     let s = c .before .before .before .before .before .before .before in
-    (s .pre .0 .1 .0, omega (arith, filters-most (s .args .prototype)))
+    (s .pre .0 .1 .0, rw (s .pre .0 .0) at (s .pre .0 .1 .1))
 
 part-end : tie.Need-part-join-end
 part-end c = omega (arith, c .before .channel .ensures .1)

@@ -9,15 +9,16 @@ use Rattle.ps_memory.proofs.store_head.Tie as tie
 returns : tie.Need-returns
 unfolding headImage
 returns c =
-    let slots = c .before in
+    let asked = c .before in
+    let slots = asked .before in
     let cued = slots .before in
     let layout = cued .before in
     let start = layout .before .before .before in
-    rw (c .kept-number .ensures, slots .slots .ensures, cued .kept-flag2 .ensures, layout .kept-flag .ensures, layout .before .is-wide .ensures)
-    (all-set (_ ∷ _ ∷ _ ∷ []) (start .args .to .now) (start .pre))
+    rw (c .kept-number2 .ensures, asked .kept-number .ensures, slots .slots .ensures, cued .kept-flag2 .ensures, layout .kept-flag .ensures, layout .before .is-wide .ensures)
+    (all-set (_ ∷ _ ∷ _ ∷ _ ∷ []) (start .args .to .now) (start .pre))
 
 pub store-head-spec : {M : Type 1} → statement M
 store-head-spec =
     tie.close
     (tie.spec (λ c κs. search needs) (λ c κs. search needs) (λ c. search needs) (λ c κs. search needs) (λ c. search needs) (λ c κs. search needs)
-    (λ c. search needs) (λ c κs. search needs) (λ c. search needs) (λ c. search needs) returns)
+    (λ c. search needs) (λ c κs. search needs) (λ c. search needs) (λ c. search needs) (λ c κs. search needs) (λ c. search needs) (λ c. search needs) returns)

@@ -13,7 +13,7 @@ returns c =
     let start = sound .before .before .before .before in
     let a = start .args in
     whole-laid (decoderOf (a .carried) (a .history .now) (a .delays .now) (a .long .now) (a .short .now) (a .detectors .now)) (a .memory .now) _ _ _ (start .pre)
-    (head .store-head .ensures) (lines .store .ensures) (sound .store-sound .ensures)
+    (head .store-head .ensures) (lines .store .ensures) (sound .store-sound .ensures (a .carried .turn))
 
 pub store-whole-spec : {M : Type 1} → statement M
 store-whole-spec =

@@ -1,53 +1,31 @@
 -- `ps_delay_channels::memory::keep_short` meets its contract: a frame of no slots keeps the memory, and any other copies its last slot. Assumes nothing.
-use mathlib.Core.Path.{_≡_, refl}
-use mathlib.Core.List.{List}
-use Prim.Native.Nat.{ℕ, _-_, _≤_}
+use mathlib.Core.Path.{sym, _∙_}
+use Prim.Native.Nat.{_+_, _*_, _-_}
 use borrow.Author.Needs.{needs}
 use native.Mathlib.Omega.{arith}
-use lib.Ieee.{Float}
-use lib.ListN.{length}
-use Rattle.lists.proofs.Front.{front-long}
-use Rattle.lists.proofs.Maps.{Tabulated, tabulated-none, tabulated-more, tabulated-all}
-use Rattle.ps_delay_channels.proofs.Keeping.{copied, short-stays, short-copied}
+use Rattle.ps_delay_channels.proofs.Bands.{width, lent-long}
+use Rattle.ps_delay_channels.proofs.Keeping.{short-stays, short-copied}
 use Rattle.ps_delay_channels.proofs.memory.keep_short.Statement.{statement}
 use Rattle.ps_delay_channels.proofs.memory.keep_short.Tie as tie
 
-record Inv (f : ℕ → Float) (old new : List Float) (i : ℕ) : Type 0 where
-  pub within : i ≤ 58
-  pub long : length new ≡ length old
-  pub written : Tabulated f i old new
+returns : tie.Need-returns
+returns c = short-stays _ _ _ (c .if1 .taken)
 
-abbrev Inv-loop : tie.InvT-loop
-Inv-loop input first slots short₀ from i₀ short i = Inv (copied input first slots) short₀ short i
+copy-requires : tie.Need-copy-requires
+copy-requires c κs =
+    let s = c .before .before .before .before .before in
+    let from = 128 * (s .args .slots - 1) + 70 in
+    lent-long from 58 (from + 58 - from) (s .args .input .now) (width from 58) (omega (arith, s .pre .2, c .before .before .if1 .left)) ∙ sym (s .pre .0)
 
-abbrev μ-loop : tie.MeasureT-loop
-μ-loop input first slots short₀ from i₀ short i = 58 - i
-
-returns : tie.Need-returns Inv-loop μ-loop
-returns c = short-stays _ _ _ _ (c .before .pre .0 .0) (c .if1 .taken)
-
-loop-holds : tie.Need-loop-holds Inv-loop μ-loop
-loop-holds c = record { within = omega arith; long = refl; written = tabulated-none _ _ }
-
-loop-again : tie.Need-loop-again Inv-loop μ-loop
-loop-again c =
-    let l = c .before .before in
-    let s = l .before .before in
-    let a = s .args in
-    let more = c .before .loop-test .taken in
-    let next = tabulated-more (l .loop .inv .written) (copied (a .input .now) (a .first) (a .slots) (l .loop .i)) refl (omega (arith, more, s .pre .0 .0)) in
-    record { within = omega (arith, more); long = front-long (next .front) (omega (arith, more, s .pre .0 .0)); written = next }
-
-copies : tie.Need-returns-2 Inv-loop μ-loop
+copies : tie.Need-returns-2
 copies c =
-    let l = c .before in
-    let s = l .before .before in
-    short-copied _ _ _ _ (s .pre .0 .0) (l .loop .short) (l .before .if1 .left)
-    (tabulated-all (l .loop .inv .written) 58 (omega (arith, l .loop .inv .within)) (omega (arith, s .pre .0 .0)))
+    let copied = c .before .before in
+    let e = copied .before .before .before in
+    let from = 128 * (e .before .before .before .args .slots - 1) + 70 in
+    short-copied _ _ _ (from + 58 - from) _ (width from 58) (e .if1 .left) (copied .copy .ensures)
 
 pub keep-short-spec : {M : Type 1} → statement M
 keep-short-spec =
     tie.close
-    (tie.spec Inv-loop μ-loop returns (λ c. search needs) (λ c. search needs) (λ c. search needs) (λ c. search needs) loop-holds (λ c. search needs)
-    (λ c. search needs) (λ c. search needs) (λ c. search needs) (λ c. search needs) (λ c. search needs) (λ c. omega arith) loop-again
-    (λ c. c .before .loop .inv .long) copies)
+    (tie.spec returns (λ c. search needs) (λ c. search needs) (λ c. search needs) (λ c. search needs) (λ c. search needs) (λ c. search needs)
+    (λ c. search needs) (λ c. search needs) copy-requires (λ c. search needs) copies)

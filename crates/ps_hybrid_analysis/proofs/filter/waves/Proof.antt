@@ -1,53 +1,45 @@
--- `ps_hybrid_analysis::filter::waves` meets its contract: after t turns the first t roots stand. Assumes nothing.
-use mathlib.Core.Path.{_≡_}
-use mathlib.Core.List.{List}
-use Prim.Native.Nat.{ℕ, _-_, _*_, _≤_}
-use native.Mathlib.Omega.{arith}
+-- `ps_hybrid_analysis::filter::waves` meets its contract: each prototype has the roots of its case. Assumes nothing.
 use borrow.Author.Needs.{needs}
-use lib.Ieee.{Float}
-use lib.IntN.{ℤ}
-use lib.ListN.{length-set}
-use Rattle.fixed.specs.Real.{pairAt}
-use Rattle.planar.proofs.Pairs.{Paired, paired-none, paired-more}
 use Rattle.ps_hybrid_analysis.proofs.filter.waves.Statement.{statement}
 use Rattle.ps_hybrid_analysis.proofs.filter.waves.Tie as tie
 
-record Inv (roots : List ℤ) (order : ℕ) (out₀ out : List Float) (t : ℕ) : Type 0 where
-  pub within : t ≤ order
-  pub paired : Paired (λ j. pairAt roots (2 * j)) t out₀ out
+eighths-of-band-zero : tie.Need-returns
+eighths-of-band-zero c =
+    let f = c .before .before in
+    let r = f .before .before .before in
+    rw (r .before .enum-told .given .1, ← r .roots-16 .ensures) (f .floats .ensures)
 
-abbrev Inv-loop : tie.InvT-loop
-Inv-loop roots order out₀ t₀ out t = Inv roots order out₀ out t
+halves : tie.Need-returns-2
+halves c =
+    let f = c .before .before in
+    let r = f .before .before .before in
+    rw (r .before .enum-told2 .given .1, ← r .roots-8 .ensures) (f .floats2 .ensures)
 
-abbrev μ-loop : tie.MeasureT-loop
-μ-loop roots order out₀ t₀ out t = order - t
+twelfths : tie.Need-returns-3
+twelfths c =
+    let f = c .before .before in
+    let r = f .before .before .before in
+    rw (r .before .enum-told3 .given .1, ← r .roots-24 .ensures) (f .floats3 .ensures)
 
-loop-holds : tie.Need-loop-holds Inv-loop μ-loop
-loop-holds c = record { within = omega arith; paired = paired-none _ _ }
+eighths-of-band-one : tie.Need-returns-4
+eighths-of-band-one c =
+    let f = c .before .before in
+    let r = f .before .before .before in
+    rw (r .before .enum-told4 .given .1, ← r .roots-162 .ensures) (f .floats4 .ensures)
 
-slice-write : tie.Need-slice-write-out Inv-loop μ-loop
-slice-write c = let l = c .before .before in omega (arith, l .loop .inv .paired .long, l .before .before .pre)
-
-slice-write-2 : tie.Need-slice-write-out-2 Inv-loop μ-loop
-slice-write-2 c = let l = c .before .before in simp length-set (omega (arith, l .loop .inv .paired .long, l .before .before .pre))
-
-loop-again : tie.Need-loop-again Inv-loop μ-loop
-loop-again c =
-    let l = c .before .before in
-    let s = l .before .before in
-    record {
-      within = omega arith;
-      paired = paired-more (l .loop .inv .paired) (c .pair .result) (c .pair .ensures) (omega (arith, s .pre));
-    }
-
-same-length : tie.Need-same-length Inv-loop μ-loop
-same-length c = c .before .loop .inv .paired .long
-
-returns : tie.Need-returns Inv-loop μ-loop
-returns c = let l = c .before in let all : l .loop .t ≡ l .before .before .args .order = omega arith in record { at = λ t u. l .loop .inv .paired .each t (omega arith) }
+quarters : tie.Need-returns-5
+quarters c =
+    let f = c .before .before in
+    let r = f .before .before .before in
+    rw (r .before .enum-told5 .given .1, ← r .roots-82 .ensures) (f .floats5 .ensures)
 
 pub waves-spec : {M : Type 1} → statement M
 waves-spec =
     tie.close
-    (tie.spec Inv-loop μ-loop loop-holds (λ c. search needs) (λ c κs. search needs) (λ c. search needs) (λ c. search needs) slice-write
-    (λ c. search needs) (λ c. search needs) (λ c. search needs) slice-write-2 (λ c. search needs) (λ c. omega arith) loop-again same-length returns)
+    (tie.spec
+    (λ c. search needs) (λ c κs. search needs) (λ c. search needs) (λ c κs. search needs)
+    (λ c. search needs) (λ c κs. search needs) (λ c. search needs) (λ c κs. search needs)
+    (λ c. search needs) (λ c κs. search needs) (λ c. search needs) (λ c κs. search needs)
+    (λ c. search needs) (λ c κs. search needs) (λ c. search needs) (λ c κs. search needs)
+    (λ c. search needs) (λ c κs. search needs) (λ c. search needs) (λ c κs. search needs)
+    (λ c. search needs) eighths-of-band-zero (λ c. search needs) halves (λ c. search needs) twelfths (λ c. search needs) eighths-of-band-one (λ c. search needs) quarters)

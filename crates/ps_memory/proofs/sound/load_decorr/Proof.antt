@@ -5,12 +5,12 @@ use Rattle.ps_memory.proofs.sound.load_decorr.Statement.{statement}
 use Rattle.ps_memory.proofs.sound.load_decorr.Tie as tie
 
 returns : tie.Need-returns
-returns c =
+returns c turn =
     let short = c .before .before .before in
     let long = short .before .before .before in
     let delays = long .before .before .before in
     let start = delays .before .before .before .before in
-    decorr-read (start .args .from .now) _ _ _ _ (delays .copy .ensures) (long .copy2 .ensures) (short .copy3 .ensures) (c .copy4 .ensures)
+    decorr-read turn (start .args .from .now) _ _ _ _ (delays .copy .ensures) (long .copy2 .ensures) (short .copy3 .ensures) (c .copy4 .ensures)
 
 pub load-decorr-spec : {M : Type 1} → statement M
 load-decorr-spec =

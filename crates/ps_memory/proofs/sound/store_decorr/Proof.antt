@@ -18,13 +18,13 @@ same-length c =
     delays .to4 .given .1 ∙ long .to3 .given .1 ∙ short .to2 .given .1 ∙ detectors .to .given .1
 
 returns : tie.Need-returns
-returns c =
+returns c turn =
     let delays = c .before .before in
     let long = delays .before .before .before .before .before in
     let short = long .before .before .before .before .before in
     let detectors = short .before .before .before .before .before in
     let start = detectors .before .before .before .before in
-    decorr-laid (decorrOf (start .args .delays .now) (start .args .long .now) (start .args .short .now) (start .args .detectors .now)) (start .args .to .now) _ _ _ _
+    decorr-laid (decorrOf turn (start .args .delays .now) (start .args .long .now) (start .args .short .now) (start .args .detectors .now)) (start .args .to .now) _ _ _ _
     (start .pre) (delays .copy4 .ensures) (long .copy3 .ensures) (short .copy2 .ensures) (detectors .copy .ensures)
 
 pub store-decorr-spec : {M : Type 1} → statement M

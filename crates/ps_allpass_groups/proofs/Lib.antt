@@ -1,0 +1,11 @@
+pub mod Stored
+pub mod OfLanes
+pub mod Cells
+pub mod Rings
+pub mod Steps
+pub mod Ways
+pub mod Sides
+pub mod Desks
+pub mod More
+pub mod Reading
+pub mod Kept
