@@ -32,27 +32,11 @@ pub extern "C" fn lefasumu_start(memory: &mut [f64], slots: usize) -> u32
     if memory.len() != MEMORY {
         return told(Answer::Buffers);
     }
-    let state = ps_state::fresh(slots);
-    let carried = ps_state::apart(state);
-    let history = state.history;
-    let decorr = state.decorr;
-    let delays = decorr.delays;
-    let long = decorr.long;
-    let short = decorr.short;
-    let detectors = decorr.detectors;
-    ps_memory::store(
-        carried,
-        &history,
-        &delays,
-        &long,
-        &short,
-        &detectors,
-        memory,
-    );
+    ps_memory::start(slots, memory);
     told(Answer::Done)
 }
 
-// A frame. The memory is written only after answer 0.
+// A frame. The memory is written only after answer 0; its sound is used where it lies.
 #[no_mangle]
 pub extern "C" fn lefasumu_frame(
     memory: &mut [f64],
@@ -67,26 +51,10 @@ pub extern "C" fn lefasumu_frame(
     if memory.len() != MEMORY {
         return told(Answer::Buffers);
     }
-    let mut history = [0.0; 60];
-    let mut delays = [0.0; 1456];
-    let mut long = [0.0; 336];
-    let mut short = [0.0; 58];
-    let mut detectors = [0.0; 102];
-    let carried = ps_memory::load(
-        memory,
-        &mut history,
-        &mut delays,
-        &mut long,
-        &mut short,
-        &mut detectors,
-    );
+    let carried = ps_memory::load(memory);
     let played = ps_decoder::lent_frame(
         carried,
-        &mut history,
-        &mut delays,
-        &mut long,
-        &mut short,
-        &mut detectors,
+        &mut memory[ps_memory::SOUND..MEMORY],
         line,
         input,
         edge,
@@ -98,6 +66,6 @@ pub extern "C" fn lefasumu_frame(
         return told(answer);
     };
     let after = played.carried;
-    ps_memory::store(after, &history, &delays, &long, &short, &detectors, memory);
+    ps_memory::store(after, memory);
     told(answer)
 }

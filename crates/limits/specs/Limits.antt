@@ -17,9 +17,13 @@ digits = 2 * bytes
 abbrev pub borders : ℕ
 borders = envelopes + 1
 
--- eight numbers for each of 34 bands at each border
+-- a band's course: eight numbers at each border
+abbrev pub course : ℕ
+course = 8 * borders
+
+-- the courses of 34 bands
 abbrev pub matrices : ℕ
-matrices = 272 * borders
+matrices = 34 * course
 
 -- for each envelope how far each of 32 slots lies on the way to its border
 abbrev pub fractions : ℕ

@@ -13,16 +13,26 @@ pub const BYTES: usize = 4 + 107 * ENVELOPES;
 pub const DIGITS: usize = 2 * BYTES;
 // Where a frame's coefficients stand: at the border kept from the frame before, and at each envelope's.
 pub const BORDERS: usize = ENVELOPES + 1;
-// Eight numbers for each of 34 bands at each border.
-pub const MATRICES: usize = 272 * BORDERS;
+// A band's course: eight numbers at each border.
+pub const COURSE: usize = 8 * BORDERS;
+// The courses of 34 bands.
+pub const MATRICES: usize = 34 * COURSE;
 // For each envelope how far each of 32 slots lies on the way to its border.
 pub const FRACTIONS: usize = 32 * ENVELOPES;
 
 // The limits as the definitions have them.
-pub fn all() -> [usize; 6]
-    ensures { λ r. ⌜ r ≡ limits.envelopes ∷ limits.bytes ∷ limits.digits ∷ limits.borders ∷ limits.matrices ∷ limits.fractions ∷ [] ⌝ }
+pub fn all() -> [usize; 7]
+    ensures { λ r. ⌜ r ≡ limits.envelopes ∷ limits.bytes ∷ limits.digits ∷ limits.borders ∷ limits.course ∷ limits.matrices ∷ limits.fractions ∷ [] ⌝ }
 {
-    [ENVELOPES, BYTES, DIGITS, BORDERS, MATRICES, FRACTIONS]
+    [
+        ENVELOPES,
+        BYTES,
+        DIGITS,
+        BORDERS,
+        COURSE,
+        MATRICES,
+        FRACTIONS,
+    ]
 }
 
 // The smaller of two numbers: one cut to a limit.

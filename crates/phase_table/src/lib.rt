@@ -21,7 +21,7 @@ fn place(oldest: usize, previous: usize, current: usize) -> usize
 }
 
 // The direction of 1/4, 1/2 and 1 times the unit vectors of three indices.
-pub fn direction(table: &[i64; 1024], oldest: usize, previous: usize, current: usize) -> Complex
+pub fn direction(table: &[i64], oldest: usize, previous: usize, current: usize) -> Complex
     ensures { λ r. ⌜ r ≡ directionAt (now (table .entry)) oldest previous current ⌝ }
 {
     fixed::pair(table, place(oldest, previous, current))

@@ -34,12 +34,15 @@ keptMatrix numbers = record { h11 = cell 1 numbers 0; h12 = cell 1 numbers 2; h2
 abbrev pub numbersOf : Matrix → List Float
 numbersOf h = h .h11 .re ∷ h .h11 .im ∷ h .h12 .re ∷ h .h12 .im ∷ h .h21 .re ∷ h .h21 .im ∷ h .h22 .re ∷ h .h22 .im ∷ []
 
--- a band's phase indices, kept for 34 bands: the oldest and the previous of IPD, then those of OPD
+-- a band's phase indices, four for each band: the oldest and the previous of IPD, then those of OPD; and those numbers
 abbrev pub ipdOf : List ℤ → ℕ → Phases
-ipdOf phases b = record { oldest = getD phases b (pos 0); previous = getD phases (34 + b) (pos 0) }
+ipdOf phases b = record { oldest = getD phases (4 * b) (pos 0); previous = getD phases (4 * b + 1) (pos 0) }
 
 abbrev pub opdOf : List ℤ → ℕ → Phases
-opdOf phases b = record { oldest = getD phases (68 + b) (pos 0); previous = getD phases (102 + b) (pos 0) }
+opdOf phases b = record { oldest = getD phases (4 * b + 2) (pos 0); previous = getD phases (4 * b + 3) (pos 0) }
+
+abbrev pub phaseNumbers : Phases → Phases → List ℤ
+phaseNumbers ipd opd = ipd .oldest ∷ ipd .previous ∷ opd .oldest ∷ opd .previous ∷ []
 
 -- QMF band q in slot n, and the list of all of them
 abbrev pub qmfAt : List Float → ℕ → ℕ → Complex

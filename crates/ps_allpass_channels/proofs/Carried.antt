@@ -4,7 +4,7 @@ use native.Mathlib.Omega.{arith}
 use mathlib.Core.Path.{_≡_, refl, sym, ap, _∙_}
 use mathlib.Core.Bool.{Bool, true, false, cond}
 use mathlib.Core.List.{List}
-use borrow.Author.Tests.{ltb-true, ltb-false, lt-ltb, le-ltb}
+use borrow.Author.Tests.{ltb-true, ltb-false}
 use lib.Dec.{ltb}
 use lib.Ieee.{Float, nan}
 use lib.ListN.{length, getD, drop}
@@ -23,7 +23,7 @@ use Rattle.ps_allpass_groups.proofs.Reading.{CellsOf, holds-cells}
 use Rattle.ps_decorr_allpass.specs.Memory.{laneOf, cellOf, ownerOf, numberOf, delaysWith}
 use Rattle.standard.specs.Channel.{Channel}
 use Rattle.standard.specs.Numbers.{zero}
-use Rattle.ps_allpass_channels.specs.Slots.{Freed}
+use Rattle.ps_allpass_channels.proofs.Freeing.{Freed}
 
 -- ---- where number m stands
 module _ (m : ℕ) where

@@ -11,6 +11,7 @@ use lib.Ieee.{Float}
 use lib.ListN.{length}
 use Rattle.layout.specs.declared.Layout.{Layout}
 use Rattle.limits.specs.Limits as limits
+use Rattle.ps_allpass_groups.specs.Desk.{fromOn, stepOn, matrixOn}
 use Rattle.ps_map.specs.Bands.{bandOf}
 use Rattle.ps_stereo_slots.specs.declared.Timing.{Timing}
 use Rattle.ps_stereo_slots.specs.Envelopes.{regionOf}
@@ -21,8 +22,7 @@ use Rattle.ps_stereo_slots.proofs.Located.{region-within, by-region}
 use Rattle.standard.specs.declared.Matrix.{Matrix}
 use Rattle.standard.specs.Interpolation.{fraction, towards, between, matrixIn}
 use Rattle.ps_allpass_channels.specs.Channels.{matrixThen}
-use Rattle.ps_allpass_channels.specs.Desks.{fromAt, stepAt, lanesOf, Wayed}
-use Rattle.ps_allpass_channels.specs.Slots.{matrixAt}
+use Rattle.ps_allpass_channels.specs.Desks.{deskOf, lanesOf, Wayed}
 
 -- from + (to - from) t, the step taken once
 step-between : (from to : Matrix) (t : Float) → stepped from (stepOf from to) t ≡ between from to t
@@ -46,12 +46,12 @@ module _ (l : Layout) (timing : Timing) (rows : List Float) (n : ℕ) (few : n <
     abbrev at : ℕ → Matrix
     at e = borderMatrix rows (bandOf l k) e
 
-    exact : matrixAt share (eqb region count) desks k ≡ matrixIn (bordersOf (timing .borders) (timing .count)) at n
-    unfolding matrixAt
+    exact : deskOf (matrixOn share (eqb region count)) desks k ≡ matrixIn (bordersOf (timing .borders) (timing .count)) at n
+    unfolding deskOf matrixOn
     exact = by (eqb region count) refl ∙ sym (by-region (timing .borders) (timing .count) long (fraction (bordersOf (timing .borders) (timing .count))) at n)
       where
         by : (b : Bool) → eqb region count ≡ b
-            → cond b (fromAt desks k) (stepped (fromAt desks k) (stepAt desks k) share)
+            → cond b (deskOf fromOn desks k) (stepped (deskOf fromOn desks k) (deskOf stepOn desks k) share)
             ≡ cond (ltb region count) (between (at region) (at (suc region)) (fraction (bordersOf (timing .borders) (timing .count)) region n)) (at count)
         by true e =
             let last : region ≡ count = eqb-true region count e in
@@ -72,7 +72,7 @@ pub matrix-is : (l : Layout) (timing : Timing) (table : List ℤ) (samples gains
     → length (timing .borders) ≡ limits.envelopes → count ≡ min (timing .count) limits.envelopes
     → region ≡ regionOf (timing .borders) (min (timing .count) limits.envelopes) (min n 31) → t ≡ fraction (timing .borders) (min region 3) (min n 31)
     → (desks : List Float) (k : ℕ) → k < lanesOf l → Wayed l rows region (min (region + 1) count) desks
-    → matrixAt t (eqb region count) desks k ≡ matrixThen l timing table samples gains rows input delays (bandOf l k) n
+    → deskOf (matrixOn t (eqb region count)) desks k ≡ matrixThen l timing table samples gains rows input delays (bandOf l k) n
 unfolding matrixThen
 matrix-is l timing table samples gains rows input delays n count region t few long counted located shared desks k u way =
     let same : min n 31 ≡ n = omega arith in

@@ -9,26 +9,27 @@ use lib.Dec.{ltb}
 use lib.Ieee.{Float, nan}
 use lib.ListN.{length, getD, set}
 use Rattle.complex.specs.declared.Complex.{Complex}
-use Rattle.layout.proofs.Bounds.{bounds}
 use Rattle.layout.specs.declared.Layout.{Layout}
-use Rattle.layout.specs.Numbers.{unsplitFromOf}
+use Rattle.layout.specs.Numbers.{bandsOf, unsplitFromOf}
+use Rattle.limits.specs.Limits as limits
 use Rattle.lists.specs.Part.{part}
 use Rattle.lists.proofs.Parts.{part-at}
 use Rattle.planar.specs.Cells.{cell}
 use Rattle.planar.specs.Frame.{keptMatrix, sampleAt, qmfAt, qmfBandOf, sampleIn}
 use Rattle.planar.proofs.Cells.{by-parts}
+use Rattle.ps_allpass_groups.specs.Desk.{sampleOn, duckOn}
 use Rattle.ps_map.specs.Bands.{parameterMap, bandOf}
 use Rattle.ps_map.proofs.Bands.{band-small}
 use Rattle.ps_stereo_slots.specs.Regions.{stepOf}
 use Rattle.ps_stereo_slots.proofs.Runs.{by-coefficients}
-use Rattle.ps_allpass_channels.specs.Desks.{Wayed, Entered, lanesOf}
-use Rattle.ps_allpass_channels.specs.DeskNumbers.{numberAt, wayNumber, sampleNumber, Put}
+use Rattle.ps_allpass_channels.specs.Desks.{lanesOf, Lies, Wayed}
+use Rattle.ps_allpass_channels.specs.DeskNumbers.{numberAt, sampleNumber, Put}
 use Rattle.ps_allpass_channels.proofs.DeskPuts.{put-none, put-more}
-use Rattle.ps_allpass_channels.proofs.DeskReads.{matrixOf, from-at, step-at, sample-at, duck-at}
+use Rattle.ps_allpass_channels.proofs.DeskReads.{wayNumber, matrixOf, from-at, step-at, sample-at, duck-at}
 
--- ---- the map of channels to bands, of which there are 34
-pub band-fits : (l : Layout) (map : List ℕ) (k : ℕ) → map ≡ parameterMap l → getD map k 0 < 34
-band-fits l map k e = rw e (omega (arith, band-small l k, bounds l .bands))
+-- ---- the map of channels to bands
+pub band-fits : (l : Layout) (map : List ℕ) (k : ℕ) → map ≡ parameterMap l → getD map k 0 < bandsOf l
+band-fits l map k e = rw e (band-small l k)
 
 -- ---- coefficients
 kept : (rows : List Float) (at : ℕ) → matrixOf (λ i. getD rows (at + i) nan) 0 ≡ keptMatrix (part at 8 rows)
@@ -41,15 +42,15 @@ kept rows at =
 
 module _ (l : Layout) (rows : List Float) (e next : ℕ) where
   abbrev way : ℕ → ℕ → Float
-  way k = wayNumber rows (272 * e + 8 * bandOf l k) (272 * next + 8 * bandOf l k)
+  way k = wayNumber rows (limits.course * bandOf l k + 8 * e) (limits.course * bandOf l k + 8 * next)
 
   pub wayed : {old desks : List Float} → Put 0 (lanesOf l) 11 (λ j. j < 27) way old desks → Wayed l rows e next desks
   wayed {desks = desks} r =
       record {
-        from = λ k u. from-at desks k (way k) (λ j a b. r .inside k j (omega arith) u a (omega arith) (omega arith)) ∙ kept rows (272 * e + 8 * bandOf l k);
+        from = λ k u. from-at desks k (way k) (λ j a b. r .inside k j (omega arith) u a (omega arith) (omega arith)) ∙ kept rows (limits.course * bandOf l k + 8 * e);
         step = λ k u.
             step-at desks k (way k) (λ j a b. r .inside k j (omega arith) u (omega arith) (omega arith) b)
-            ∙ ap₂ stepOf (kept rows (272 * e + 8 * bandOf l k)) (kept rows (272 * next + 8 * bandOf l k));
+            ∙ ap₂ stepOf (kept rows (limits.course * bandOf l k + 8 * e)) (kept rows (limits.course * bandOf l k + 8 * next));
       }
 
 -- ---- samples and ducking factors
@@ -74,12 +75,11 @@ module _ (l : Layout) (samples gains input : List Float) (n : ℕ) {old split ro
   pub entered : Put 0 (unsplitFromOf l) 27 (λ j. j < 29) (λ k. sampleNumber (sampleAt samples n k)) old split
       → Put (unsplitFromOf l) (lanesOf l) 27 (λ j. j < 29) (λ k. sampleNumber (qmfAt input n (qmfBandOf l k))) split row
       → Put 0 (lanesOf l) 29 (λ j. j < 30) (λ k _. getD gains (32 * bandOf l k + n) nan) row desks
-      → Entered l samples gains input n desks
-  entered p q r =
-      record {
-        sample = λ k u. sample-at desks k (sampleNumber (sampleIn l samples input n k)) (λ j a b. r .before k j b ∙ sample k j u a b (ltb k (unsplitFromOf l)) refl);
-        duck = λ k u. duck-at desks k (λ _. getD gains (32 * bandOf l k + n) nan) (λ j a b. r .inside k j (omega arith) u a (omega arith) b);
-      }
+      → Lies l sampleOn desks (sampleIn l samples input n) × Lies l duckOn desks (λ k. getD gains (32 * bandOf l k + n) nan)
+  entered p q r = (
+    λ k u. sample-at desks k (sampleNumber (sampleIn l samples input n k)) (λ j a b. r .before k j b ∙ sample k j u a b (ltb k (unsplitFromOf l)) refl),
+    λ k u. duck-at desks k (λ _. getD gains (32 * bandOf l k + n) nan) (λ j a b. r .inside k j (omega arith) u a (omega arith) b),
+  )
     where
       sample : (k j : ℕ) → k < lanesOf l → 27 ≤ j → j < 29 → (t : Bool) → ltb k (unsplitFromOf l) ≡ t
           → numberAt row k j ≡ sampleNumber (cond t (sampleAt samples n k) (qmfAt input n (qmfBandOf l k))) j

@@ -1,10 +1,12 @@
 -- What stands on the desks for a channel, told by its numbers. Assumes nothing.
 use mathlib.Core.Path.{_≡_, refl, sym, ap, _∙_}
+use mathlib.Core.Bool.{cond}
 use mathlib.Core.List.{List}
-use Prim.Native.Nat.{ℕ, _+_, _*_, _/_, _%_, _<_, _≤_}
+use Prim.Native.Nat.{ℕ, _+_, _-_, _*_, _/_, _%_, _<_, _≤_}
 use native.Mathlib.Omega.{arith}
-use lib.Ieee.{Float, nan}
-use lib.ListN.{length, getD}
+use lib.Dec.{ltb}
+use lib.Ieee.{Float, nan, binary64, sub}
+use lib.ListN.{getD}
 use Rattle.lists.specs.Part.{part}
 use Rattle.lists.proofs.Parts.{part-at}
 use Rattle.planar.specs.Cells.{cell}
@@ -14,8 +16,13 @@ use Rattle.ps_stereo_slots.proofs.Runs.{by-coefficients}
 use Rattle.standard.specs.declared.Chain.{Chain}
 use Rattle.standard.specs.declared.Link.{Link}
 use Rattle.standard.specs.declared.Matrix.{Matrix}
-use Rattle.ps_allpass_channels.specs.Desks.{chainAt, fromAt, stepAt, sampleAt, duckAt, SameChains, SameWays}
+use Rattle.ps_allpass_channels.specs.Desks.{deskOf}
 use Rattle.ps_allpass_channels.specs.DeskNumbers.{numberAt}
+
+-- 11 to 18 are the eight coefficients at a border, 19 to 26 what they gain until another
+abbrev pub wayNumber : List Float → ℕ → ℕ → ℕ → Float
+wayNumber rows from to j =
+    cond (ltb j 19) (getD rows (from + (j - 11)) nan) (sub binary64 (getD rows (to + (j - 19)) nan) (getD rows (from + (j - 19)) nan))
 
 -- what a channel's numbers make
 abbrev linkOf : (ℕ → Float) → ℕ → Link
@@ -56,8 +63,8 @@ module _ (desks : List Float) (k : ℕ) (f : ℕ → Float) where
       let back = number (j + 2) (i + 8) (omega arith) (omega arith) (are (j + 2) (omega arith) (omega arith)) in
       λ d. record { rotation = turn d; feedback = back d }
 
-  pub chain-at : Are 0 11 → chainAt desks k ≡ chainOf f
-  unfolding chainAt chainOn
+  pub chain-at : Are 0 11 → deskOf chainOn desks k ≡ chainOf f
+  unfolding deskOf chainOn
   chain-at are =
       let i = k % 4 in
       let fractional = pair 0 i (omega arith) (omega arith) (λ m a b. are m (omega arith) (omega arith)) in
@@ -66,8 +73,8 @@ module _ (desks : List Float) (k : ℕ) (f : ℕ → Float) where
       let third = link 8 (32 + i) (omega arith) (omega arith) (λ m a b. are m (omega arith) (omega arith)) in
       λ d. record { fractional = fractional d; first = first d; second = second d; third = third d }
 
-  pub from-at : Are 11 19 → fromAt desks k ≡ matrixOf f 11
-  unfolding fromAt fromOn
+  pub from-at : Are 11 19 → deskOf fromOn desks k ≡ matrixOf f 11
+  unfolding deskOf fromOn
   from-at are =
       let i = 44 + k % 4 in
       by-coefficients (pair 11 i (omega arith) (omega arith) (λ m a b. are m (omega arith) (omega arith)))
@@ -75,8 +82,8 @@ module _ (desks : List Float) (k : ℕ) (f : ℕ → Float) where
       (pair 15 (i + 16) (omega arith) (omega arith) (λ m a b. are m (omega arith) (omega arith)))
       (pair 17 (i + 24) (omega arith) (omega arith) (λ m a b. are m (omega arith) (omega arith)))
 
-  pub step-at : Are 19 27 → stepAt desks k ≡ matrixOf f 19
-  unfolding stepAt stepOn
+  pub step-at : Are 19 27 → deskOf stepOn desks k ≡ matrixOf f 19
+  unfolding deskOf stepOn
   step-at are =
       let i = 76 + k % 4 in
       by-coefficients (pair 19 i (omega arith) (omega arith) (λ m a b. are m (omega arith) (omega arith)))
@@ -84,23 +91,22 @@ module _ (desks : List Float) (k : ℕ) (f : ℕ → Float) where
       (pair 23 (i + 16) (omega arith) (omega arith) (λ m a b. are m (omega arith) (omega arith)))
       (pair 25 (i + 24) (omega arith) (omega arith) (λ m a b. are m (omega arith) (omega arith)))
 
-  pub sample-at : Are 27 29 → sampleAt desks k ≡ record { re = f 27; im = f 28 }
-  unfolding sampleAt sampleOn
+  pub sample-at : Are 27 29 → deskOf sampleOn desks k ≡ record { re = f 27; im = f 28 }
+  unfolding deskOf sampleOn
   sample-at are = pair 27 (108 + k % 4) (omega arith) (omega arith) are
 
-  pub duck-at : Are 29 30 → duckAt desks k ≡ f 29
-  unfolding duckAt duckOn
+  pub duck-at : Are 29 30 → deskOf duckOn desks k ≡ f 29
+  unfolding deskOf duckOn
   duck-at are = number 29 (116 + k % 4) (omega arith) (omega arith) (are 29 (omega arith) (omega arith))
 
 -- ---- desks with the same numbers
-module _ {old desks : List Float} where
-  pub same-chains : length desks ≡ length old → ((k j : ℕ) → j < 11 → numberAt desks k j ≡ numberAt old k j) → SameChains old desks
-  same-chains long same =
-      record { long = long; chain = λ k u. chain-at desks k (numberAt old k) (λ j a b. same k j b) ∙ sym (chain-at old k (numberAt old k) (λ j a b. refl)) }
+module _ (old desks : List Float) (k : ℕ) where
+  pub same-chain : ((j : ℕ) → j < 11 → numberAt desks k j ≡ numberAt old k j) → deskOf chainOn desks k ≡ deskOf chainOn old k
+  same-chain same = chain-at desks k (numberAt old k) (λ j a b. same j b) ∙ sym (chain-at old k (numberAt old k) (λ j a b. refl))
 
-  pub same-ways : ((k j : ℕ) → j < 27 → numberAt desks k j ≡ numberAt old k j) → SameWays old desks
-  same-ways same =
-      record {
-        from = λ k u. from-at desks k (numberAt old k) (λ j a b. same k j (omega arith)) ∙ sym (from-at old k (numberAt old k) (λ j a b. refl));
-        step = λ k u. step-at desks k (numberAt old k) (λ j a b. same k j b) ∙ sym (step-at old k (numberAt old k) (λ j a b. refl));
-      }
+  module _ (same : (j : ℕ) → j < 27 → numberAt desks k j ≡ numberAt old k j) where
+    pub same-from : deskOf fromOn desks k ≡ deskOf fromOn old k
+    same-from = from-at desks k (numberAt old k) (λ j a b. same j (omega arith)) ∙ sym (from-at old k (numberAt old k) (λ j a b. refl))
+
+    pub same-step : deskOf stepOn desks k ≡ deskOf stepOn old k
+    same-step = step-at desks k (numberAt old k) (λ j a b. same j b) ∙ sym (step-at old k (numberAt old k) (λ j a b. refl))

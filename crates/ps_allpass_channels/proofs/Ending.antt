@@ -1,24 +1,25 @@
 -- After the last slot the delays and both sides are those of the frame, also where its count of slots started anew; a frame that does not fit changes
 -- nothing. Assumes nothing.
-use Prim.Native.Nat.{ℕ, _+_, _*_, _%_, _<_, _≤_, min}
+use Prim.Native.Nat.{ℕ, _+_, _*_, _/_, _%_, _<_, min}
 use native.Mathlib.Omega.{arith}
 use mathlib.Core.Path.{_≡_, refl, ap, _∙_}
-use mathlib.Core.Logic.{_≢_}
 use mathlib.Core.Bool.{Bool, true, false, cond}
 use mathlib.Core.List.{List}
-use borrow.Author.Tests.{ltb-true, ltb-false, eq-eqb, ne-eqb, le-leb, lt-leb}
-use lib.Dec.{eqb, leb, ltb}
+use borrow.Author.Tests.{ltb-true, ltb-false, eq-eqb, le-leb}
+use lib.Dec.{ltb}
 use lib.IntN.{ℤ}
 use lib.Ieee.{Float, nan}
 use lib.ListN.{length, getD}
 use Rattle.complex.specs.declared.Complex.{Complex}
 use Rattle.complex.specs.Operations.{scaled}
 use Rattle.layout.specs.declared.Layout.{Layout}
-use Rattle.layout.specs.Numbers.{allPassOf}
+use Rattle.layout.specs.Numbers.{bandsOf, allPassOf, groupsOf, unsplitFromOf}
 use Rattle.layout.proofs.Bounds.{bounds}
+use Rattle.limits.specs.Limits as limits
+use Rattle.lists.specs.Part.{part, put}
 use Rattle.planar.specs.Frame.{sampleIn, qmfAt, qmfRows, qmfBandOf}
 use Rattle.planar.proofs.Rows.{rows-are}
-use Rattle.ps_decorr_allpass.specs.Memory.{laneOf, delaysWith}
+use Rattle.ps_decorr_allpass.specs.Memory.{laneOf, silencedFrom, delaysWith}
 use Rattle.ps_decorr_allpass.proofs.Wraps.{channel-wraps, delays-wraps-on}
 use Rattle.ps_map.specs.Bands.{bandOf, conjugatedOf}
 use Rattle.ps_stereo_slots.specs.declared.Timing.{Timing}
@@ -26,9 +27,10 @@ use Rattle.standard.specs.declared.Matrix.{Matrix}
 use Rattle.standard.specs.Channel.{Channel, chainFrom, channelAt, thirdOutput}
 use Rattle.standard.specs.Hybrid.{synthesised}
 use Rattle.standard.specs.Mixing.{leftOf, rightOf}
-use Rattle.ps_allpass_channels.specs.Channels.{channelThen, decorrelated, matrixThen, sideAt, sideRows, leftAfter, rightAfter, delaysAfter}
-use Rattle.ps_allpass_channels.specs.Slots.{Mixed, Reached, Freed, Framed}
+use Rattle.ps_allpass_channels.specs.Channels.{channelThen, decorrelated, matrixThen, sideAt, sideRows, fits, leftAfter, rightAfter, delaysAfter}
+use Rattle.ps_allpass_channels.specs.Slots.{Roomy, Mixed, Reached}
 use Rattle.ps_allpass_channels.proofs.Carried.{delays-are}
+use Rattle.ps_allpass_channels.proofs.Freeing.{freed}
 
 -- ---- a frame that was run
 module _ (l : Layout) (timing : Timing) (table : List ℤ) (samples gains rows input delays₀ : List Float) where
@@ -46,15 +48,35 @@ module _ (l : Layout) (timing : Timing) (table : List ℤ) (samples gains rows i
           let high = ltb-false q (qmfBandOf l (allPassOf l)) e in
           r .above n q (omega (arith, high, bounds l .delayed)) v
 
-  pub framed : (left₀ right₀ delays left right new : List Float) → length left₀ ≡ 128 * timing .slots → length right₀ ≡ 128 * timing .slots
-      → Reached l timing table samples gains rows input delays₀ (timing .slots) left₀ right₀ delays left right → Freed l delays new
-      → Framed l timing table samples gains rows input delays₀ left₀ right₀ new left right
-  framed left₀ right₀ delays left right new size wide r f =
-      record {
-        left-is = side-rows leftOf (timing .slots) left₀ left size (r .on-left);
-        right-is = side-rows rightOf (timing .slots) right₀ right wide (r .on-right);
-        delays-are = delays-are l (timing .turn + timing .slots) _ delays₀ delays new (r .holds) (r .long) (r .behind) f;
-      }
+  abbrev pub Framed : List Float → List Float → List Float → List Float → List Float → Type 0
+  Framed left₀ right₀ delays left right =
+      (left ≡ sideRows l timing table samples gains rows input delays₀ leftOf (timing .slots) left₀)
+      × ((right ≡ sideRows l timing table samples gains rows input delays₀ rightOf (timing .slots) right₀)
+      × (delays ≡ delaysWith l (timing .turn + timing .slots) (λ k. channelThen l timing table samples gains rows input delays₀ k (timing .slots)) delays₀))
+
+  pub framed : (left₀ right₀ delays left right : List Float) → Roomy l timing samples gains rows input delays₀ left₀ right₀
+      → Reached l timing table samples gains rows input delays₀ (timing .slots) left₀ right₀ delays left right
+      → Framed left₀ right₀
+      (put (112 * (allPassOf l / 4)) 112 delays (silencedFrom (λ m. m % 4) (allPassOf l % 4) (part (112 * (allPassOf l / 4)) 112 delays))) left right
+  framed left₀ right₀ delays left right room r = (
+    side-rows leftOf (timing .slots) left₀ left (room .left-long) (r .on-left),
+    (
+      side-rows rightOf (timing .slots) right₀ right (room .right-long) (r .on-right),
+      delays-are l (timing .turn + timing .slots) _ delays₀ delays _ (r .holds) (r .long) (r .behind) (freed l delays (omega (arith, r .long, room .delays-long))),
+    ),
+  )
+
+-- ---- what comes out
+module _ (l : Layout) (timing : Timing) (table : List ℤ) (samples gains rows input delays left right : List Float) where
+  abbrev pub Outcome : List Float → List Float → List Float → Type 0
+  Outcome new-delays new-left new-right =
+      (new-left ≡ leftAfter l timing table samples gains rows input delays left right)
+      × ((new-right ≡ rightAfter l timing table samples gains rows input delays left right)
+      × (new-delays ≡ delaysAfter l timing table samples gains rows input delays left right))
+
+  pub unfit : fits l timing table samples gains rows input delays left right ≡ false → Outcome delays left right
+  unfolding leftAfter rightAfter delaysAfter
+  unfit h = (rw h, (rw h, rw h))
 
 -- ---- a frame whose slots and turn are cut
 abbrev pub cutTo : ℕ → Timing → Timing
@@ -85,46 +107,24 @@ module _ (l : Layout) (timing : Timing) (table : List ℤ) (samples gains rows i
       (λ i. delaysWith l (timing .turn % 420 + slots) (λ k. then-anew k slots i) delays)
       ∙ delays-wraps-on (timing .turn) slots l (λ k. channelThen l timing table samples gains rows input delays k slots) delays
 
-  -- ---- what comes out
-  module _ (left right : List Float) (counted : slots ≡ min (timing .slots) 32) where
-    pub record Outcome (new-delays new-left new-right : List Float) : Type 0 where
-      pub left-is : new-left ≡ leftAfter l timing table samples gains rows input delays left right
-      pub right-is : new-right ≡ rightAfter l timing table samples gains rows input delays left right
-      pub delays-are : new-delays ≡ delaysAfter l timing table samples gains rows input delays left right
+  module _ (left right : List Float) (counted : slots ≡ min (timing .slots) 32) (room : Roomy l (cutTo slots timing) samples gains rows input delays left right) where
+    fit : fits l timing table samples gains rows input delays left right ≡ true
+    fit =
+        rw (
+          eq-eqb (length left) (128 * min (timing .slots) 32) (rw (← counted) (room .left-long)),
+          eq-eqb (length right) (128 * min (timing .slots) 32) (rw (← counted) (room .right-long)),
+          le-leb (128 * min (timing .slots) 32) (length input) (rw (← counted) (room .input-long)),
+          le-leb (64 * unsplitFromOf l) (length samples) (room .samples-long),
+          le-leb (32 * bandsOf l) (length gains) (room .gains-long),
+          le-leb (limits.course * bandsOf l) (length rows) (room .rows-long),
+          le-leb (112 * groupsOf l) (length delays) (room .delays-long),
+        )
 
-    pub left-unfit : length left ≢ 128 * slots → Outcome delays left right
+    pub done : (new-delays new-left new-right : List Float)
+        → Framed l (cutTo slots timing) table samples gains rows input delays left right new-delays new-left new-right
+        → Outcome l timing table samples gains rows input delays left right new-delays new-left new-right
     unfolding leftAfter rightAfter delaysAfter
-    left-unfit h =
-        let no : eqb (length left) (128 * min (timing .slots) 32) ≡ false = ne-eqb (length left) (128 * min (timing .slots) 32) (rw (← counted) h) in
-        record { left-is = rw no; right-is = rw no; delays-are = rw no }
-
-    module _ (fits : length left ≡ 128 * slots) where
-      yes : eqb (length left) (128 * min (timing .slots) 32) ≡ true
-      yes = eq-eqb (length left) (128 * min (timing .slots) 32) (rw (← counted) fits)
-
-      pub right-unfit : length right ≢ 128 * slots → Outcome delays left right
-      unfolding leftAfter rightAfter delaysAfter
-      right-unfit h =
-          let no : eqb (length right) (128 * min (timing .slots) 32) ≡ false = ne-eqb (length right) (128 * min (timing .slots) 32) (rw (← counted) h) in
-          record { left-is = rw (yes, no); right-is = rw (yes, no); delays-are = rw (yes, no) }
-
-      module _ (too : length right ≡ 128 * slots) where
-        both : eqb (length right) (128 * min (timing .slots) 32) ≡ true
-        both = eq-eqb (length right) (128 * min (timing .slots) 32) (rw (← counted) too)
-
-        pub input-unfit : length input < 128 * slots → Outcome delays left right
-        unfolding leftAfter rightAfter delaysAfter
-        input-unfit h =
-            let no : leb (128 * min (timing .slots) 32) (length input) ≡ false = lt-leb (128 * min (timing .slots) 32) (length input) (rw (← counted) h) in
-            record { left-is = rw (yes, both, no); right-is = rw (yes, both, no); delays-are = rw (yes, both, no) }
-
-        pub all-done : 128 * slots ≤ length input → (new-delays new-left new-right : List Float)
-            → Framed l (cutTo slots timing) table samples gains rows input delays left right new-delays new-left new-right → Outcome new-delays new-left new-right
-        unfolding leftAfter rightAfter delaysAfter
-        all-done h new-delays new-left new-right r =
-            let read : leb (128 * min (timing .slots) 32) (length input) ≡ true = le-leb (128 * min (timing .slots) 32) (length input) (rw (← counted) h) in
-            record {
-              left-is = rw (yes, both, read, ← counted) (r .left-is ∙ rows-anew leftOf left);
-              right-is = rw (yes, both, read, ← counted) (r .right-is ∙ rows-anew rightOf right);
-              delays-are = rw (yes, both, read, ← counted) (r .delays-are ∙ all-anew);
-            }
+    done new-delays new-left new-right r = (
+      rw (fit, ← counted) (r .0 ∙ rows-anew leftOf left),
+      (rw (fit, ← counted) (r .1 .0 ∙ rows-anew rightOf right), rw (fit, ← counted) (r .1 .1 ∙ all-anew)),
+    )

@@ -22,8 +22,7 @@ use Rattle.planar.proofs.Cells.{by-parts, stored-length}
 use Rattle.planar.proofs.Pairs.{pair-same, pair-other}
 use Rattle.ps_allpass_groups.specs.Desk as desk
 use Rattle.standard.specs.Hybrid.{firstChannelOf, addedTo, synthesised}
-use Rattle.ps_allpass_channels.specs.Desks.{Left, leftAt, rightAt}
-use Rattle.ps_allpass_channels.specs.Leaving.{standing, Rowed}
+use Rattle.ps_allpass_channels.specs.Desks.{deskOf, standing, Rowed, Left}
 
 -- ---- bands of a row, one after the other
 
@@ -98,12 +97,12 @@ module _ (desks : List Float) where
       (part-at (136 * (k / 4)) 136 desks (place + k % 4) nan (omega arith) ∙ ap (λ (i : ℕ). getD desks i nan) here)
       (part-at (136 * (k / 4)) 136 desks (place + k % 4 + 4) nan (omega arith) ∙ ap (λ (i : ℕ). getD desks i nan) next)
 
-  pub left-standing : standing desks 120 ≡ leftAt desks
-  unfolding leftAt desk.leftOn
+  pub left-standing : standing desks 120 ≡ deskOf desk.leftOn desks
+  unfolding deskOf desk.leftOn
   left-standing = λ i k. sym (on-desk 120 k (omega arith)) i
 
-  pub right-standing : standing desks 128 ≡ rightAt desks
-  unfolding rightAt desk.rightOn
+  pub right-standing : standing desks 128 ≡ deskOf desk.rightOn desks
+  unfolding deskOf desk.rightOn
   right-standing = λ i k. sym (on-desk 128 k (omega arith)) i
 
 -- ---- the slot's row comes back

@@ -17,6 +17,7 @@ use Rattle.layout.specs.declared.Layout.{Layout}
 use Rattle.layout.specs.Numbers.{allPassOf}
 use Rattle.layout.proofs.Bounds.{bounds}
 use Rattle.planar.specs.Frame.{sampleIn, qmfAt}
+use Rattle.ps_allpass_groups.specs.Desk.{chainOn, matrixOn}
 use Rattle.ps_allpass_groups.specs.Rings.{Holds}
 use Rattle.ps_allpass_groups.proofs.Reading.{holds-read}
 use Rattle.ps_decorr_allpass.specs.Memory.{laneOf, channelOf}
@@ -28,8 +29,8 @@ use Rattle.standard.specs.Channel.{Channel, chainFrom, channelAfter, channelAt,
 use Rattle.standard.specs.Hybrid.{synthesised}
 use Rattle.standard.specs.Mixing.{leftOf, rightOf}
 use Rattle.ps_allpass_channels.specs.Channels.{channelThen, decorrelated, matrixThen, sideAt}
-use Rattle.ps_allpass_channels.specs.Desks.{chainAt, lanesOf, Left}
-use Rattle.ps_allpass_channels.specs.Slots.{matrixAt, sideThen, Passed, Mixed, Reached}
+use Rattle.ps_allpass_channels.specs.Desks.{lanesOf, Lies, Left}
+use Rattle.ps_allpass_channels.specs.Slots.{sideThen, Passed, Mixed, Reached}
 use Rattle.ps_allpass_channels.proofs.Synthesis.{synthesised-same}
 
 module _ (l : Layout) (timing : Timing) (table : List ℤ) (samples gains rows input delays₀ : List Float) where
@@ -57,8 +58,8 @@ module _ (l : Layout) (timing : Timing) (table : List ℤ) (samples gains rows i
       subst (λ (m : ℕ). Reached l timing table samples gains rows input delays₀ m left₀ right₀ delays left right) whole r
 
   -- ---- one slot more
-  module _ (n : ℕ) (t : Float) (held : Bool) (desks : List Float) (laid : (k : ℕ) → k < lanesOf l → chainAt desks k ≡ chainFrom table l k)
-      (placed : (k : ℕ) → k < lanesOf l → matrixAt t held desks k ≡ matrixThen l timing table samples gains rows input delays₀ (bandOf l k) n) where
+  module _ (n : ℕ) (t : Float) (held : Bool) (desks : List Float) (laid : Lies l chainOn desks (chainFrom table l))
+      (placed : Lies l (matrixOn t held) desks (λ k. matrixThen l timing table samples gains rows input delays₀ (bandOf l k) n)) where
     lane : (k : ℕ) → k < allPassOf l → k < lanesOf l
     lane k u = omega (arith, bounds l .grouped)
 

@@ -9,7 +9,11 @@ use Rattle.complex.specs.Operations.{sum}
 use Rattle.planar.specs.Cells.{cell}
 use Rattle.standard.specs.Hybrid.{addedTo}
 use Rattle.standard.specs.Numbers.{nought}
-use Rattle.ps_allpass_channels.specs.Leaving.{standing, fourAdded, CarriedOn}
+use Rattle.ps_allpass_channels.specs.Desks.{standing}
+
+-- whichever channel a sum of those to before `from` begins at, the result is the sum of those to before `end`
+abbrev pub CarriedOn : (ℕ → Complex) → ℕ → ℕ → Complex → Complex → Type 0
+CarriedOn y from end start result = (first : ℕ) → first ≤ from → start ≡ addedTo y first (from - first) → result ≡ addedTo y first (end - first)
 
 pub none-yet : (y : ℕ → Complex) (first from : ℕ) → from ≡ first → nought ≡ addedTo y first (from - first)
 unfolding addedTo
@@ -24,21 +28,25 @@ one-more y from k next start x z e begun so-far is = λ first u f.
     rw one (ap₂ sum (so-far first u f) (is ∙ ap y here))
 
 module _ (desks : List Float) (place j : ℕ) where
-  lane : (i k : ℕ) → 136 * j + place + i ≡ 136 * (k / 4) + k % 4 + place → cell 4 desks (136 * j + place + i) ≡ standing desks place k
-  lane i k e = ap (cell 4 desks) e
+  abbrev at : ℕ
+  at = 136 * j + place
+
+  lane : (p k : ℕ) → p ≡ 136 * (k / 4) + k % 4 + place → cell 4 desks p ≡ standing desks place k
+  lane p k e = ap (cell 4 desks) e
 
   pub desk-more : (from : ℕ) (start x : Complex) → from ≤ 4 * j → CarriedOn (standing desks place) from (4 * j) start x
-      → CarriedOn (standing desks place) from (4 * (j + 1)) start (fourAdded x (λ i. cell 4 desks (136 * j + place + i)))
+      → CarriedOn (standing desks place) from (4 * (j + 1)) start
+      (sum (sum (sum (sum x (cell 4 desks at)) (cell 4 desks (at + 1))) (cell 4 desks (at + 2))) (cell 4 desks (at + 3)))
   desk-more from start x begun so-far =
       let y = standing desks place in
-      let l : ℕ → Complex = λ i. cell 4 desks (136 * j + place + i) in
-      let x1 = sum x (l 0) in
-      let x2 = sum x1 (l 1) in
-      let x3 = sum x2 (l 2) in
-      one-more y from (4 * j + 3) (4 * (j + 1)) start x3 (l 3) (omega arith) (omega arith)
-      (one-more y from (4 * j + 2) (4 * j + 3) start x2 (l 2) (omega arith) (omega arith)
-      (one-more y from (4 * j + 1) (4 * j + 2) start x1 (l 1) (omega arith) (omega arith)
-      (one-more y from (4 * j) (4 * j + 1) start x (l 0) (omega arith) begun so-far (lane 0 (4 * j) (omega arith)))
-      (lane 1 (4 * j + 1) (omega arith)))
-      (lane 2 (4 * j + 2) (omega arith)))
-      (lane 3 (4 * j + 3) (omega arith))
+      let l : ℕ → Complex = cell 4 desks in
+      let x1 = sum x (l at) in
+      let x2 = sum x1 (l (at + 1)) in
+      let x3 = sum x2 (l (at + 2)) in
+      one-more y from (4 * j + 3) (4 * (j + 1)) start x3 (l (at + 3)) (omega arith) (omega arith)
+      (one-more y from (4 * j + 2) (4 * j + 3) start x2 (l (at + 2)) (omega arith) (omega arith)
+      (one-more y from (4 * j + 1) (4 * j + 2) start x1 (l (at + 1)) (omega arith) (omega arith)
+      (one-more y from (4 * j) (4 * j + 1) start x (l at) (omega arith) begun so-far (lane at (4 * j) (omega arith)))
+      (lane (at + 1) (4 * j + 1) (omega arith)))
+      (lane (at + 2) (4 * j + 2) (omega arith)))
+      (lane (at + 3) (4 * j + 3) (omega arith))

@@ -11,7 +11,8 @@ use lib.ListN.{length, getD}
 use Rattle.complex.specs.declared.Complex.{Complex}
 use Rattle.complex.specs.Operations.{scaled}
 use Rattle.layout.specs.declared.Layout.{Layout}
-use Rattle.layout.specs.Numbers.{allPassOf}
+use Rattle.layout.specs.Numbers.{bandsOf, allPassOf, groupsOf, unsplitFromOf}
+use Rattle.limits.specs.Limits as limits
 use Rattle.planar.specs.Frame.{sampleIn, qmfAt, qmfRows, qmfBandOf}
 use Rattle.ps_decorr_allpass.specs.Memory.{laneOf, channelOf, delaysWith}
 use Rattle.ps_map.specs.Bands.{bandOf, conjugatedOf}
@@ -44,13 +45,17 @@ module _ (l : Layout) (timing : Timing) (table : List ℤ) (samples gains rows i
   unfoldable pub sideRows : (Bool → Matrix → Complex → Complex → Complex) → ℕ → List Float → List Float
   sideRows side slots old = qmfRows slots (λ n q. cond (ltb q (qmfBandOf l (allPassOf l))) (synthesised l (sideAt side n) q) (qmfAt old n q))
 
-  -- after a frame of at most 32 slots, where the outputs have exactly its rows and the input has them too; nothing changes where they do not
+  -- after a frame of at most 32 slots, where the outputs have exactly its rows, the input has them too and the other lists have room for the layout;
+  -- nothing changes where they do not
   abbrev slots : ℕ
   slots = min (timing .slots) 32
 
   module _ (left right : List Float) where
     abbrev pub fits : Bool
-    fits = eqb (length left) (128 * slots) && eqb (length right) (128 * slots) && leb (128 * slots) (length input)
+    fits =
+        eqb (length left) (128 * slots) && eqb (length right) (128 * slots) && leb (128 * slots) (length input)
+        && leb (64 * unsplitFromOf l) (length samples) && leb (32 * bandsOf l) (length gains)
+        && leb (limits.course * bandsOf l) (length rows) && leb (112 * groupsOf l) (length delays)
 
     unfoldable pub leftAfter : List Float
     leftAfter = cond fits (sideRows leftOf slots left) left

@@ -1,31 +1,16 @@
 -- The desks number by number: channel k's numbers stand four places apart, 34 of them. What is written there, channel by channel. Assumes nothing.
-use Prim.Native.Nat.{ℕ, _+_, _-_, _*_, _/_, _%_, _≤_, _<_}
+use Prim.Native.Nat.{ℕ, _+_, _*_, _/_, _%_, _≤_, _<_}
 use mathlib.Core.Bool.{cond}
-use mathlib.Core.List.{List, [], _∷_}
+use mathlib.Core.List.{List}
 use mathlib.Core.Path.{_≡_}
-use lib.Dec.{eqb, ltb}
-use lib.Ieee.{Float, nan, binary64, sub}
+use lib.Dec.{eqb}
+use lib.Ieee.{Float, nan}
 use lib.ListN.{length, getD}
 use Rattle.complex.specs.declared.Complex.{Complex}
-use Rattle.standard.specs.declared.Chain.{Chain}
 
--- number j of channel k
+-- number j of channel k: 0 to 10 are its chain's, 11 to 18 its eight coefficients at a border, 19 to 26 what they gain until another
 abbrev pub numberAt : List Float → ℕ → ℕ → Float
 numberAt desks k j = getD desks (136 * (k / 4) + k % 4 + 4 * j) nan
-
--- a chain's numbers are 0 to 10
-abbrev pub chainNumber : Chain → ℕ → Float
-chainNumber chain j =
-    getD
-    (chain .fractional .re ∷ chain .fractional .im
-    ∷ chain .first .rotation .re ∷ chain .first .rotation .im ∷ chain .first .feedback
-    ∷ chain .second .rotation .re ∷ chain .second .rotation .im ∷ chain .second .feedback
-    ∷ chain .third .rotation .re ∷ chain .third .rotation .im ∷ chain .third .feedback ∷ []) j nan
-
--- 11 to 18 are the eight coefficients at a border, 19 to 26 what they gain until another
-abbrev pub wayNumber : List Float → ℕ → ℕ → ℕ → Float
-wayNumber rows from to j =
-    cond (ltb j 19) (getD rows (from + (j - 11)) nan) (sub binary64 (getD rows (to + (j - 19)) nan) (getD rows (from + (j - 19)) nan))
 
 -- 27 and 28 are a sample, 29 is a ducking factor
 abbrev pub sampleNumber : Complex → ℕ → Float

@@ -2,75 +2,47 @@
 use Prim.Native.Nat.{ℕ, _+_, _*_, _/_, _%_, _≤_, _<_}
 use mathlib.Core.List.{List}
 use mathlib.Core.Path.{_≡_}
-use lib.IntN.{ℤ}
-use lib.Ieee.{Float, nan}
-use lib.ListN.{length, getD}
+use lib.Ieee.{Float}
+use lib.ListN.{length}
 use Rattle.complex.specs.declared.Complex.{Complex}
 use Rattle.layout.specs.declared.Layout.{Layout}
 use Rattle.layout.specs.Numbers.{groupsOf}
 use Rattle.lists.specs.Part.{part}
-use Rattle.planar.specs.Frame.{sampleIn, qmfAt}
-use Rattle.ps_allpass_groups.specs.Desk as desk
+use Rattle.planar.specs.Cells.{cell}
+use Rattle.planar.specs.Frame.{qmfAt}
+use Rattle.ps_allpass_groups.specs.Desk.{fromOn, stepOn}
 use Rattle.ps_map.specs.Bands.{bandOf}
 use Rattle.ps_stereo_slots.specs.Regions.{stepOf}
 use Rattle.ps_stereo_slots.specs.Slots.{borderMatrix}
-use Rattle.standard.specs.declared.Chain.{Chain}
-use Rattle.standard.specs.declared.Matrix.{Matrix}
-use Rattle.standard.specs.Channel.{chainFrom}
 use Rattle.standard.specs.Hybrid.{synthesised}
 
-abbrev deskOf : List Float → ℕ → List Float
-deskOf desks k = part (136 * (k / 4)) 136 desks
-
--- what stands there for channel k
-unfoldable pub chainAt : List Float → ℕ → Chain
-chainAt desks k = desk.chainOn (k % 4) (deskOf desks k)
-
-unfoldable pub fromAt : List Float → ℕ → Matrix
-fromAt desks k = desk.fromOn (k % 4) (deskOf desks k)
-
-unfoldable pub stepAt : List Float → ℕ → Matrix
-stepAt desks k = desk.stepOn (k % 4) (deskOf desks k)
-
-unfoldable pub sampleAt : List Float → ℕ → Complex
-sampleAt desks k = desk.sampleOn (k % 4) (deskOf desks k)
-
-unfoldable pub duckAt : List Float → ℕ → Float
-duckAt desks k = desk.duckOn (k % 4) (deskOf desks k)
-
-unfoldable pub leftAt : List Float → ℕ → Complex
-leftAt desks k = desk.leftOn (k % 4) (deskOf desks k)
-
-unfoldable pub rightAt : List Float → ℕ → Complex
-rightAt desks k = desk.rightOn (k % 4) (deskOf desks k)
+-- what stands there for channel k: its chain by `chainOn`, its sample by `sampleOn`, and so on
+unfoldable pub deskOf : {A : Type 0} → (ℕ → List Float → A) → List Float → ℕ → A
+deskOf read desks k = read (k % 4) (part (136 * (k / 4)) 136 desks)
 
 -- a layout's channels with a desk: all-pass ones, and up to three more that fill the last group
 abbrev pub lanesOf : Layout → ℕ
 lanesOf l = 4 * groupsOf l
 
--- the constants of all chains are laid
-pub record Laid (l : Layout) (table : List ℤ) (desks : List Float) : Type 0 where
-  pub long : length desks ≡ 1768
-  pub chain : (k : ℕ) → k < lanesOf l → chainAt desks k ≡ chainFrom table l k
+-- for each of them it is this
+abbrev pub Lies : {A : Type 0} → Layout → (ℕ → List Float → A) → List Float → (ℕ → A) → Type 0
+Lies l read desks value = (k : ℕ) → k < lanesOf l → deskOf read desks k ≡ value k
 
 -- the coefficients of a region, from one border to another
 pub record Wayed (l : Layout) (rows : List Float) (e next : ℕ) (desks : List Float) : Type 0 where
-  pub from : (k : ℕ) → k < lanesOf l → fromAt desks k ≡ borderMatrix rows (bandOf l k) e
-  pub step : (k : ℕ) → k < lanesOf l → stepAt desks k ≡ stepOf (borderMatrix rows (bandOf l k) e) (borderMatrix rows (bandOf l k) next)
+  pub from : Lies l fromOn desks (λ k. borderMatrix rows (bandOf l k) e)
+  pub step : Lies l stepOn desks (λ k. stepOf (borderMatrix rows (bandOf l k) e) (borderMatrix rows (bandOf l k) next))
 
--- the samples and ducking factors of slot n
-pub record Entered (l : Layout) (samples gains input : List Float) (n : ℕ) (desks : List Float) : Type 0 where
-  pub sample : (k : ℕ) → k < lanesOf l → sampleAt desks k ≡ sampleIn l samples input n k
-  pub duck : (k : ℕ) → k < lanesOf l → duckAt desks k ≡ getD gains (32 * bandOf l k + n) nan
+-- channel k's complex number at a place of its desk, as left at 120 and right at 128
+abbrev pub standing : List Float → ℕ → ℕ → Complex
+standing desks place k = cell 4 desks (136 * (k / 4) + k % 4 + place)
 
--- desks whose constants, or whose constants and coefficients, are as they were
-pub record SameChains (desks₀ desks : List Float) : Type 0 where
-  pub long : length desks ≡ length desks₀
-  pub chain : (k : ℕ) → k < 52 → chainAt desks k ≡ chainAt desks₀ k
-
-pub record SameWays (desks₀ desks : List Float) : Type 0 where
-  pub from : (k : ℕ) → k < 52 → fromAt desks k ≡ fromAt desks₀ k
-  pub step : (k : ℕ) → k < 52 → stepAt desks k ≡ stepAt desks₀ k
+-- the QMF bands of a row from one to before another are these, and the others as they were
+pub record Rowed (value : ℕ → Complex) (from to : ℕ) (old new : List Float) : Type 0 where
+  pub long : length new ≡ length old
+  pub below : (q : ℕ) → q < from → cell 1 new (2 * q) ≡ cell 1 old (2 * q)
+  pub each : (q : ℕ) → from ≤ q → q < to → cell 1 new (2 * q) ≡ value q
+  pub above : (q : ℕ) → to ≤ q → cell 1 new (2 * q) ≡ cell 1 old (2 * q)
 
 -- slot n of a side: QMF bands 0 to 22 are those of the channels, and all else is as it was
 pub record Left (l : Layout) (channel : ℕ → Complex) (n : ℕ) (old new : List Float) : Type 0 where

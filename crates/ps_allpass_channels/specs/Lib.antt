@@ -1,5 +1,4 @@
 pub mod Channels
 pub mod Desks
 pub mod DeskNumbers
-pub mod Leaving
 pub mod Slots

@@ -1,22 +1,27 @@
 // What a slot's groups take is laid on their desks (ps_allpass_groups has the places): for channel k in lane k mod 4 of desk k / 4. Private to the crate.
 use layout::Layout;
 use standard::Chain;
+ghost use mathlib.Core.Bool.{cond};
 ghost use mathlib.Core.Path.{_≡_};
 ghost use Prim.Native.Nat.{ℕ, _+_, _-_, _*_, _<_, _≤_};
-ghost use lib.Ieee.{nan};
+ghost use lib.Dec.{ltb};
+ghost use lib.Ieee.{nan, binary64, sub};
 ghost use lib.ListN.{length, getD};
-ghost use Rattle.layout.specs.Numbers.{unsplitFromOf};
+ghost use Rattle.layout.specs.Numbers.{bandsOf, unsplitFromOf};
 ghost use Rattle.limits.specs.Limits as limits;
 ghost use Rattle.ps_map.specs.Bands.{parameterMap, bandOf};
 ghost use Rattle.planar.specs.Cells.{cell};
-ghost use Rattle.planar.specs.Frame.{sampleAt, qmfAt, qmfBandOf};
-ghost use Rattle.ps_allpass_channels.specs.Desks.{Laid, Wayed, Entered, SameChains, SameWays, lanesOf};
-ghost use Rattle.ps_allpass_channels.specs.DeskNumbers.{chainNumber, wayNumber, sampleNumber, Put};
+ghost use Rattle.planar.specs.Frame.{sampleAt, qmfAt, qmfBandOf, sampleIn};
+ghost use Rattle.ps_allpass_groups.specs.Desk.{chainOn, fromOn, stepOn, sampleOn, duckOn};
+ghost use Rattle.standard.specs.Channel.{chainFrom};
+ghost use Rattle.ps_allpass_channels.specs.Desks.{deskOf, lanesOf, Lies, Wayed};
+ghost use Rattle.ps_allpass_channels.specs.DeskNumbers.{sampleNumber, Put};
 
-// The constants of channel k's chain.
+// The constants of channel k's chain. Those of the channels before it stay.
 fn lay_chain(chain: Chain, k: usize, desks: &mut [f64])
     requires { ⌜ (k < 52) × (length (now desks) ≡ 1768) ⌝ }
-    ensures { λ _. ⌜ Put k (k + 1) 0 (λ j. j < 11) (λ _. chainNumber chain) (now (desks .entry)) (now (desks .exit)) ⌝ }
+    ensures own { λ _. ⌜ deskOf chainOn (now (desks .exit)) k ≡ chain ⌝ }
+    ensures before { λ _. ⌜ ((i : ℕ) → i < k → deskOf chainOn (now (desks .exit)) i ≡ deskOf chainOn (now (desks .entry)) i) ⌝ }
 {
     let at = 136 * (k / 4) + k % 4;
     let fractional = chain.fractional;
@@ -42,7 +47,7 @@ fn lay_chain(chain: Chain, k: usize, desks: &mut [f64])
 // The constants of every chain, from a lent table of rotations: once a frame.
 pub fn lay(layout: Layout, table: &[i64], desks: &mut [f64])
     requires { ⌜ length (now desks) ≡ 1768 ⌝ }
-    ensures { λ _. ⌜ Laid layout (now (table .entry)) (now (desks .exit)) ⌝ }
+    ensures { λ _. ⌜ Lies layout chainOn (now (desks .exit)) (chainFrom (now (table .entry)) layout) ⌝ }
 {
     let channels = 4 * layout.groups();
     for k in 0..channels {
@@ -53,7 +58,9 @@ pub fn lay(layout: Layout, table: &[i64], desks: &mut [f64])
 // Channel k's eight coefficients from one border, and what they are to gain until another.
 fn lay_way(rows: &[f64], from: usize, to: usize, k: usize, desks: &mut [f64])
     requires { ⌜ (from + 8 ≤ length (now rows)) × (to + 8 ≤ length (now rows)) × (k < 52) × (length (now desks) ≡ 1768) ⌝ }
-    ensures { λ _. ⌜ Put k (k + 1) 11 (λ j. j < 27) (λ _. wayNumber (now (rows .entry)) from to) (now (desks .entry)) (now (desks .exit)) ⌝ }
+    ensures { λ _. ⌜ Put k (k + 1) 11 (λ j. j < 27) (λ _ j. cond (ltb j 19) (getD (now (rows .entry)) (from + (j - 11)) nan)
+        (sub binary64 (getD (now (rows .entry)) (to + (j - 19)) nan) (getD (now (rows .entry)) (from + (j - 19)) nan)))
+        (now (desks .entry)) (now (desks .exit)) ⌝ }
 {
     let at = 136 * (k / 4) + k % 4 + 44;
     for c in 0..8 {
@@ -65,21 +72,21 @@ fn lay_way(rows: &[f64], from: usize, to: usize, k: usize, desks: &mut [f64])
 
 // The coefficients of every channel from border e to another.
 pub fn ways(layout: Layout, map: &[u8; 91], rows: &[f64], e: usize, next: usize, desks: &mut [f64])
-    requires { ⌜ (now map ≡ parameterMap layout) × ((length (now rows) ≡ limits.matrices) × (length (now desks) ≡ 1768)) ⌝ }
+    requires { ⌜ (now map ≡ parameterMap layout) × ((limits.course * bandsOf layout ≤ length (now rows)) × (length (now desks) ≡ 1768)) ⌝ }
     requires { ⌜ (e < limits.borders) × (next < limits.borders) ⌝ }
     ensures way { λ _. ⌜ Wayed layout (now (rows .entry)) e next (now (desks .exit)) ⌝ }
-    ensures chains { λ _. ⌜ SameChains (now (desks .entry)) (now (desks .exit)) ⌝ }
+    ensures chains { λ _. ⌜ Lies layout chainOn (now (desks .exit)) (deskOf chainOn (now (desks .entry))) ⌝ }
 {
     let channels = 4 * layout.groups();
     for k in 0..channels {
-        let band = 8 * (map[k] as usize);
-        lay_way(rows, 272 * e + band, 272 * next + band, k, desks);
+        let at = limits::COURSE * (map[k] as usize);
+        lay_way(rows, at + 8 * e, at + 8 * next, k, desks);
     }
 }
 
 // Slot n of four of the split bands' channels, from their runs, into the lanes of desk g.
 fn split_four(samples: &[f64], n: usize, g: usize, desks: &mut [f64])
-    requires { ⌜ (n < 32) × (g < 8) × (length (now samples) ≡ 2048) × (length (now desks) ≡ 1768) ⌝ }
+    requires { ⌜ (n < 32) × (g < 8) × (256 * g + 256 ≤ length (now samples)) × (length (now desks) ≡ 1768) ⌝ }
     ensures { λ _. ⌜ Put (4 * g) (4 * g + 4) 27 (λ j. j < 29) (λ k. sampleNumber (sampleAt (now (samples .entry)) n k)) (now (desks .entry)) (now (desks .exit)) ⌝ }
 {
     let from = 256 * g + n;
@@ -104,7 +111,7 @@ fn split_four(samples: &[f64], n: usize, g: usize, desks: &mut [f64])
 
 // Of those that fill whole desks.
 fn split_desks(whole: usize, samples: &[f64], n: usize, desks: &mut [f64])
-    requires { ⌜ (whole ≤ 8) × (n < 32) × (length (now samples) ≡ 2048) × (length (now desks) ≡ 1768) ⌝ }
+    requires { ⌜ (whole ≤ 8) × (n < 32) × (256 * whole ≤ length (now samples)) × (length (now desks) ≡ 1768) ⌝ }
     ensures { λ _. ⌜ Put 0 (4 * whole) 27 (λ j. j < 29) (λ k. sampleNumber (sampleAt (now (samples .entry)) n k)) (now (desks .entry)) (now (desks .exit)) ⌝ }
 {
     for g in 0..whole {
@@ -114,7 +121,7 @@ fn split_desks(whole: usize, samples: &[f64], n: usize, desks: &mut [f64])
 
 // Of those that are left.
 fn split_rest(first: usize, unsplit: usize, samples: &[f64], n: usize, desks: &mut [f64])
-    requires { ⌜ (first ≤ unsplit) × (unsplit ≤ 32) × (n < 32) × (length (now samples) ≡ 2048) × (length (now desks) ≡ 1768) ⌝ }
+    requires { ⌜ (first ≤ unsplit) × (unsplit ≤ 32) × (n < 32) × (64 * unsplit ≤ length (now samples)) × (length (now desks) ≡ 1768) ⌝ }
     ensures { λ _. ⌜ Put first unsplit 27 (λ j. j < 29) (λ k. sampleNumber (sampleAt (now (samples .entry)) n k)) (now (desks .entry)) (now (desks .exit)) ⌝ }
 {
     for k in first..unsplit {
@@ -126,7 +133,7 @@ fn split_rest(first: usize, unsplit: usize, samples: &[f64], n: usize, desks: &m
 
 // Of all the split bands' channels.
 fn enter_split(unsplit: usize, samples: &[f64], n: usize, desks: &mut [f64])
-    requires { ⌜ (unsplit ≤ 32) × (n < 32) × (length (now samples) ≡ 2048) × (length (now desks) ≡ 1768) ⌝ }
+    requires { ⌜ (unsplit ≤ 32) × (n < 32) × (64 * unsplit ≤ length (now samples)) × (length (now desks) ≡ 1768) ⌝ }
     ensures { λ _. ⌜ Put 0 unsplit 27 (λ j. j < 29) (λ k. sampleNumber (sampleAt (now (samples .entry)) n k)) (now (desks .entry)) (now (desks .exit)) ⌝ }
 {
     let whole = unsplit / 4;
@@ -204,7 +211,7 @@ fn enter_row(layout: Layout, input: &[f64], n: usize, desks: &mut [f64])
 
 // The ducking factor of channel k's band in slot n.
 fn duck(map: &[u8; 91], gains: &[f64], k: usize, n: usize) -> f64
-    requires { ⌜ (k < 91) × (getD (now map) k 0 < 34) × (n < 32) × (length (now gains) ≡ 1088) ⌝ }
+    requires { ⌜ (k < 91) × (n < 32) × (32 * getD (now map) k 0 + 32 ≤ length (now gains)) ⌝ }
     ensures { λ r. ⌜ r ≡ getD (now (gains .entry)) (32 * getD (now (map .entry)) k 0 + n) nan ⌝ }
 {
     gains[32 * (map[k] as usize) + n]
@@ -212,7 +219,7 @@ fn duck(map: &[u8; 91], gains: &[f64], k: usize, n: usize) -> f64
 
 // Those of four channels into the lanes of desk g.
 fn duck_four(map: &[u8; 91], gains: &[f64], n: usize, g: usize, desks: &mut [f64])
-    requires { ⌜ ((k : ℕ) → getD (now map) k 0 < 34) × (n < 32) × (g < 13) × (length (now gains) ≡ 1088) × (length (now desks) ≡ 1768) ⌝ }
+    requires { ⌜ ((k : ℕ) → 32 * getD (now map) k 0 + 32 ≤ length (now gains)) × (n < 32) × (g < 13) × (length (now desks) ≡ 1768) ⌝ }
     ensures { λ _. ⌜ Put (4 * g) (4 * g + 4) 29 (λ j. j < 30) (λ k _. getD (now (gains .entry)) (32 * getD (now (map .entry)) k 0 + n) nan)
         (now (desks .entry)) (now (desks .exit)) ⌝ }
 {
@@ -230,7 +237,7 @@ fn duck_four(map: &[u8; 91], gains: &[f64], n: usize, g: usize, desks: &mut [f64
 
 // The ducking factors of slot n.
 fn enter_ducks(layout: Layout, map: &[u8; 91], gains: &[f64], n: usize, desks: &mut [f64])
-    requires { ⌜ (now map ≡ parameterMap layout) × (n < 32) × (length (now gains) ≡ 1088) × (length (now desks) ≡ 1768) ⌝ }
+    requires { ⌜ (now map ≡ parameterMap layout) × (n < 32) × (32 * bandsOf layout ≤ length (now gains)) × (length (now desks) ≡ 1768) ⌝ }
     ensures { λ _. ⌜ Put 0 (lanesOf layout) 29 (λ j. j < 30) (λ k _. getD (now (gains .entry)) (32 * bandOf layout k + n) nan)
         (now (desks .entry)) (now (desks .exit)) ⌝ }
 {
@@ -250,10 +257,12 @@ pub fn enter(
     desks: &mut [f64],
 )
     requires { ⌜ (now map ≡ parameterMap layout) × ((n < 32) × (128 * n + 128 ≤ length (now input))) ⌝ }
-    requires { ⌜ (length (now samples) ≡ 2048) × ((length (now gains) ≡ 1088) × (length (now desks) ≡ 1768)) ⌝ }
-    ensures entered { λ _. ⌜ Entered layout (now (samples .entry)) (now (gains .entry)) (now (input .entry)) n (now (desks .exit)) ⌝ }
-    ensures chains { λ _. ⌜ SameChains (now (desks .entry)) (now (desks .exit)) ⌝ }
-    ensures ways { λ _. ⌜ SameWays (now (desks .entry)) (now (desks .exit)) ⌝ }
+    requires { ⌜ (64 * unsplitFromOf layout ≤ length (now samples)) × (32 * bandsOf layout ≤ length (now gains)) × (length (now desks) ≡ 1768) ⌝ }
+    ensures samples { λ _. ⌜ Lies layout sampleOn (now (desks .exit)) (sampleIn layout (now (samples .entry)) (now (input .entry)) n) ⌝ }
+    ensures ducks { λ _. ⌜ Lies layout duckOn (now (desks .exit)) (λ k. getD (now (gains .entry)) (32 * bandOf layout k + n) nan) ⌝ }
+    ensures chains { λ _. ⌜ Lies layout chainOn (now (desks .exit)) (deskOf chainOn (now (desks .entry))) ⌝ }
+    ensures from { λ _. ⌜ Lies layout fromOn (now (desks .exit)) (deskOf fromOn (now (desks .entry))) ⌝ }
+    ensures step { λ _. ⌜ Lies layout stepOn (now (desks .exit)) (deskOf stepOn (now (desks .entry))) ⌝ }
 {
     enter_split(layout.unsplit_from(), samples, n, desks);
     enter_row(layout, input, n, desks);

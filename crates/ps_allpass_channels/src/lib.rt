@@ -5,14 +5,22 @@ mod rows;
 
 use layout::Layout;
 use ps_stereo_slots::Timing;
+ghost use mathlib.Core.List.{List};
 ghost use mathlib.Core.Path.{_≡_};
-ghost use Prim.Native.Nat.{_+_, _*_, _<_, _≤_};
+ghost use Prim.Native.Nat.{_+_, _*_, _/_, _%_, _<_, _≤_, min};
+ghost use lib.IntN.{ℤ};
 ghost use lib.ListN.{length};
+ghost use Rattle.layout.specs.Numbers.{bandsOf, allPassOf, groupsOf, unsplitFromOf};
 ghost use Rattle.limits.specs.Limits as limits;
+ghost use Rattle.lists.specs.Part.{part, put};
+ghost use Rattle.ps_allpass_groups.specs.Desk.{chainOn};
+ghost use Rattle.ps_decorr_allpass.specs.Memory.{silencedFrom, delaysWith};
 ghost use Rattle.ps_map.specs.Bands.{parameterMap};
-ghost use Rattle.ps_allpass_channels.specs.Channels.{leftAfter, rightAfter, delaysAfter};
-ghost use Rattle.ps_allpass_channels.specs.Desks.{SameChains};
-ghost use Rattle.ps_allpass_channels.specs.Slots.{Passed, Begun, Roomy, Ran, Freed, Framed};
+ghost use Rattle.standard.specs.Channel.{chainFrom};
+ghost use Rattle.standard.specs.Mixing.{leftOf, rightOf};
+ghost use Rattle.ps_allpass_channels.specs.Channels.{channelThen, sideRows, leftAfter, rightAfter, delaysAfter};
+ghost use Rattle.ps_allpass_channels.specs.Desks.{deskOf, Lies, Wayed};
+ghost use Rattle.ps_allpass_channels.specs.Slots.{Passed, Roomy, Reached};
 
 // What is said of a slot: that it is slot n of the frame, that `turn` slots came before it, and how far it lies on its way, or that it is held.
 struct Moment {
@@ -36,7 +44,8 @@ fn slot(
     right: &mut [f64],
 )
     requires { ⌜ (now map ≡ parameterMap (moment .layout)) × (moment .n < 32) × (128 * moment .n + 128 ≤ length (now input)) ⌝ }
-    requires { ⌜ (length (now samples) ≡ 2048) × (length (now gains) ≡ 1088) × (length (now desks) ≡ 1768) × (length (now delays) ≡ 1456) ⌝ }
+    requires { ⌜ (64 * unsplitFromOf (moment .layout) ≤ length (now samples)) × (32 * bandsOf (moment .layout) ≤ length (now gains)) ⌝ }
+    requires { ⌜ (length (now desks) ≡ 1768) × (112 * groupsOf (moment .layout) ≤ length (now delays)) ⌝ }
     requires { ⌜ (128 * moment .n + 128 ≤ length (now left)) × (128 * moment .n + 128 ≤ length (now right)) ⌝ }
     ensures { λ _. ⌜ Passed (moment .layout) (now (samples .entry)) (now (gains .entry)) (now (input .entry)) (moment .n) (moment .turn) (moment .t) (moment .held) (now (desks .entry)) (now (delays .entry)) (now (left .entry)) (now (right .entry)) (now (desks .exit)) (now (delays .exit)) (now (left .exit)) (now (right .exit)) ⌝ }
 {
@@ -57,10 +66,10 @@ fn begin(
     old: usize,
     desks: &mut [f64],
 )
-    requires { ⌜ (now map ≡ parameterMap layout) × (length (now rows) ≡ limits.matrices) × (length (now desks) ≡ 1768) ⌝ }
-    requires { ⌜ (region ≤ count) × (count ≤ limits.envelopes) × Begun layout (now rows) count old (now desks) ⌝ }
-    ensures ways { λ _. ⌜ Begun layout (now (rows .entry)) count region (now (desks .exit)) ⌝ }
-    ensures chains { λ _. ⌜ SameChains (now (desks .entry)) (now (desks .exit)) ⌝ }
+    requires { ⌜ (now map ≡ parameterMap layout) × (limits.course * bandsOf layout ≤ length (now rows)) × (length (now desks) ≡ 1768) ⌝ }
+    requires { ⌜ (region ≤ count) × (count ≤ limits.envelopes) × (old ≤ count → Wayed layout (now rows) old (min (old + 1) count) (now desks)) ⌝ }
+    ensures way { λ _. ⌜ Wayed layout (now (rows .entry)) region (min (region + 1) count) (now (desks .exit)) ⌝ }
+    ensures chains { λ _. ⌜ Lies layout chainOn (now (desks .exit)) (deskOf chainOn (now (desks .entry))) ⌝ }
 {
     if region == old {
         return;
@@ -88,9 +97,10 @@ fn run(
     left: &mut [f64],
     right: &mut [f64],
 )
-    requires { ⌜ Roomy timing (now samples) (now gains) (now rows) (now input) (now delays) (now left) (now right) ⌝ }
+    requires { ⌜ Roomy layout timing (now samples) (now gains) (now rows) (now input) (now delays) (now left) (now right) ⌝ }
     requires { ⌜ length (now desks) ≡ 1768 ⌝ }
-    ensures { λ _. ⌜ Ran layout timing (now (samples .entry)) (now (gains .entry)) (now (rows .entry)) (now (input .entry)) (now (desks .entry)) (now (delays .entry)) (now (left .entry)) (now (right .entry)) (now (delays .exit)) (now (left .exit)) (now (right .exit)) ⌝ }
+    ensures { λ _. ⌜ ((table : List ℤ) → Lies layout chainOn (now (desks .entry)) (chainFrom table layout)
+        → Reached layout timing table (now (samples .entry)) (now (gains .entry)) (now (rows .entry)) (now (input .entry)) (now (delays .entry)) (timing .slots) (now (left .entry)) (now (right .entry)) (now (delays .exit)) (now (left .exit)) (now (right .exit))) ⌝ }
 {
     let map = ps_map::parameter_map(layout);
     let count = limits::least(timing.count, limits::ENVELOPES);
@@ -123,8 +133,9 @@ fn run(
 
 // The lanes of the last group that have no channel: what went through them is nothing.
 fn silence_free(layout: Layout, delays: &mut [f64])
-    requires { ⌜ length (now delays) ≡ 1456 ⌝ }
-    ensures { λ _. ⌜ Freed layout (now (delays .entry)) (now (delays .exit)) ⌝ }
+    requires { ⌜ 112 * groupsOf layout ≤ length (now delays) ⌝ }
+    ensures { λ _. ⌜ now (delays .exit) ≡ put (112 * (allPassOf layout / 4)) 112 (now (delays .entry))
+        (silencedFrom (λ m. m % 4) (allPassOf layout % 4) (part (112 * (allPassOf layout / 4)) 112 (now (delays .entry)))) ⌝ }
 {
     let at = 112 * (layout.all_pass() / 4);
     ps_decorr_allpass::silence(&mut delays[at..at + 112], layout.all_pass() % 4);
@@ -143,8 +154,11 @@ fn frame(
     left: &mut [f64],
     right: &mut [f64],
 )
-    requires { ⌜ Roomy timing (now samples) (now gains) (now rows) (now input) (now delays) (now left) (now right) ⌝ }
-    ensures { λ _. ⌜ Framed layout timing (now (table .entry)) (now (samples .entry)) (now (gains .entry)) (now (rows .entry)) (now (input .entry)) (now (delays .entry)) (now (left .entry)) (now (right .entry)) (now (delays .exit)) (now (left .exit)) (now (right .exit)) ⌝ }
+    requires { ⌜ Roomy layout timing (now samples) (now gains) (now rows) (now input) (now delays) (now left) (now right) ⌝ }
+    ensures left { λ _. ⌜ now (left .exit) ≡ sideRows layout timing (now (table .entry)) (now (samples .entry)) (now (gains .entry)) (now (rows .entry)) (now (input .entry)) (now (delays .entry)) leftOf (timing .slots) (now (left .entry)) ⌝ }
+    ensures right { λ _. ⌜ now (right .exit) ≡ sideRows layout timing (now (table .entry)) (now (samples .entry)) (now (gains .entry)) (now (rows .entry)) (now (input .entry)) (now (delays .entry)) rightOf (timing .slots) (now (right .entry)) ⌝ }
+    ensures delays { λ _. ⌜ now (delays .exit) ≡ delaysWith layout (timing .turn + timing .slots)
+        (λ k. channelThen layout timing (now (table .entry)) (now (samples .entry)) (now (gains .entry)) (now (rows .entry)) (now (input .entry)) (now (delays .entry)) k (timing .slots)) (now (delays .entry)) ⌝ }
 {
     let mut desks = [0.0f64; 1768];
     desks::lay(layout, table, &mut desks);
@@ -168,11 +182,11 @@ pub fn allpass_channels(
     layout: Layout,
     timing: Timing,
     table: &[i64],
-    samples: &[f64; 2048],
-    gains: &[f64; 1088],
-    rows: &[f64; limits::MATRICES],
+    samples: &[f64],
+    gains: &[f64],
+    rows: &[f64],
     input: &[f64],
-    delays: &mut [f64; 1456],
+    delays: &mut [f64],
     left: &mut [f64],
     right: &mut [f64],
 )
@@ -181,6 +195,7 @@ pub fn allpass_channels(
     ensures delays { λ _. ⌜ now (delays .exit) ≡ delaysAfter layout timing (now (table .entry)) (now (samples .entry)) (now (gains .entry)) (now (rows .entry)) (now (input .entry)) (now (delays .entry)) (now (left .entry)) (now (right .entry)) ⌝ }
 {
     let slots = limits::least(timing.slots, 32);
+    let bands = layout.bands();
     if left.len() != 128 * slots {
         return;
     }
@@ -188,6 +203,18 @@ pub fn allpass_channels(
         return;
     }
     if input.len() < 128 * slots {
+        return;
+    }
+    if samples.len() < 64 * layout.unsplit_from() {
+        return;
+    }
+    if gains.len() < 32 * bands {
+        return;
+    }
+    if rows.len() < limits::COURSE * bands {
+        return;
+    }
+    if delays.len() < 112 * layout.groups() {
         return;
     }
     let borders = timing.borders;

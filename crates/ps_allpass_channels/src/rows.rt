@@ -2,13 +2,14 @@
 use complex::Complex;
 use layout::Layout;
 ghost use mathlib.Core.Path.{_≡_};
-ghost use Prim.Native.Nat.{_+_, _-_, _*_, _/_, _%_, _<_, _≤_};
+ghost use Prim.Native.Nat.{ℕ, _+_, _-_, _*_, _/_, _%_, _<_, _≤_};
 ghost use lib.ListN.{length};
+ghost use Rattle.complex.specs.Operations.{sum};
 ghost use Rattle.layout.specs.Numbers.{splitOf};
 ghost use Rattle.planar.specs.Cells.{cell};
+ghost use Rattle.ps_allpass_groups.specs.Desk.{leftOn, rightOn};
 ghost use Rattle.standard.specs.Hybrid.{firstChannelOf, addedTo, synthesised};
-ghost use Rattle.ps_allpass_channels.specs.Desks.{Left, leftAt, rightAt};
-ghost use Rattle.ps_allpass_channels.specs.Leaving.{standing, fourAdded, CarriedOn, Rowed};
+ghost use Rattle.ps_allpass_channels.specs.Desks.{deskOf, standing, Rowed, Left};
 
 // A complex number of a lane, its parts four places apart.
 fn lane(desks: &[f64], at: usize) -> Complex
@@ -32,7 +33,8 @@ fn side(desks: &[f64], place: usize, k: usize) -> Complex
 // The four channels of one desk, which stand from `at` on, added in rising order.
 fn add_four(start: Complex, desks: &[f64], at: usize) -> Complex
     requires { ⌜ (at ≤ 1760) × (length (now desks) ≡ 1768) ⌝ }
-    ensures { λ r. ⌜ r ≡ fourAdded start (λ i. cell 4 (now (desks .entry)) (at + i)) ⌝ }
+    ensures { λ r. ⌜ r ≡ sum (sum (sum (sum start (cell 4 (now (desks .entry)) at)) (cell 4 (now (desks .entry)) (at + 1)))
+        (cell 4 (now (desks .entry)) (at + 2))) (cell 4 (now (desks .entry)) (at + 3)) ⌝ }
 {
     let a = lane(desks, at);
     let b = lane(desks, at + 1);
@@ -41,10 +43,11 @@ fn add_four(start: Complex, desks: &[f64], at: usize) -> Complex
     start.add(a).add(b).add(c).add(d)
 }
 
-// The channels of the desks from `first` to before `last`, added to a sum of those below.
+// The channels of the desks from `first` to before `last`, added to a sum of those below, whichever of them it begins at.
 fn add_desks(start: Complex, desks: &[f64], place: usize, first: usize, last: usize) -> Complex
     requires { ⌜ (first ≤ last) × ((last ≤ 13) × ((place ≤ 128) × (length (now desks) ≡ 1768))) ⌝ }
-    ensures { λ r. ⌜ CarriedOn (standing (now (desks .entry)) place) (4 * first) (4 * last) start r ⌝ }
+    ensures { λ r. ⌜ ((least : ℕ) → least ≤ 4 * first → start ≡ addedTo (standing (now (desks .entry)) place) least (4 * first - least)
+        → r ≡ addedTo (standing (now (desks .entry)) place) least (4 * last - least)) ⌝ }
 {
     let mut sum = start;
     for j in first..last {
@@ -53,10 +56,11 @@ fn add_desks(start: Complex, desks: &[f64], place: usize, first: usize, last: us
     sum
 }
 
-// The channels from `from` to before `end`, one after the other, added to a sum of those below.
+// The channels from `from` to before `end`, one after the other, added to a sum of those below, whichever of them it begins at.
 fn add_channels(start: Complex, desks: &[f64], place: usize, from: usize, end: usize) -> Complex
     requires { ⌜ (from ≤ end) × ((end ≤ 52) × ((place ≤ 128) × (length (now desks) ≡ 1768))) ⌝ }
-    ensures { λ r. ⌜ CarriedOn (standing (now (desks .entry)) place) from end start r ⌝ }
+    ensures { λ r. ⌜ ((least : ℕ) → least ≤ from → start ≡ addedTo (standing (now (desks .entry)) place) least (from - least)
+        → r ≡ addedTo (standing (now (desks .entry)) place) least (end - least)) ⌝ }
 {
     let mut sum = start;
     for k in from..end {
@@ -191,8 +195,8 @@ fn leave_side(layout: Layout, desks: &[f64], place: usize, row: &mut [f64])
 pub fn leave(layout: Layout, desks: &[f64], n: usize, left: &mut [f64], right: &mut [f64])
     requires { ⌜ (n < 32) × (length (now desks) ≡ 1768) ⌝ }
     requires { ⌜ (128 * n + 128 ≤ length (now left)) × (128 * n + 128 ≤ length (now right)) ⌝ }
-    ensures left { λ _. ⌜ Left layout (leftAt (now (desks .entry))) n (now (left .entry)) (now (left .exit)) ⌝ }
-    ensures right { λ _. ⌜ Left layout (rightAt (now (desks .entry))) n (now (right .entry)) (now (right .exit)) ⌝ }
+    ensures left { λ _. ⌜ Left layout (deskOf leftOn (now (desks .entry))) n (now (left .entry)) (now (left .exit)) ⌝ }
+    ensures right { λ _. ⌜ Left layout (deskOf rightOn (now (desks .entry))) n (now (right .entry)) (now (right .exit)) ⌝ }
 {
     let at = 128 * n;
     leave_side(layout, desks, 120, &mut left[at..at + 128]);

@@ -17,8 +17,7 @@ use Rattle.standard.specs.declared.Link.{Link}
 use Rattle.standard.specs.Channel.{linkState, linkOutput}
 use Rattle.ps_allpass_groups.specs.declared.lanes.Four.{Four}
 use Rattle.ps_allpass_groups.specs.declared.lanes.Pair.{Pair}
-use Rattle.ps_allpass_groups.specs.Lanes.{laneOf, flat}
-use Rattle.ps_allpass_groups.specs.Links.{linkOf, Linked}
+use Rattle.ps_allpass_groups.specs.Lanes.{laneOf, linkOf, lanes, flat}
 use Rattle.planar.specs.Lanes.{on}
 use Rattle.ps_allpass_groups.proofs.OfLanes.{lane-of, cell-flat}
 
@@ -31,6 +30,12 @@ pub record Put (place : ℕ) (v : Complex) (f₀ f : ℕ → Complex) : Type 0 w
 pub record Step (k : ℕ) (u : Complex) (link : Link) (f₀ f : ℕ → Complex) (v : Complex) : Type 0 where
   pub state : Put k (linkState u link (f₀ k)) f₀ f
   pub output : v ≡ linkOutput u link (f₀ k)
+
+-- a cell of eight numbers one slot later, and what comes out
+abbrev pub Linked : List Float → Pair → Pair → Four → List Float → Pair → Type 0
+Linked cell₀ u rotation feedback cell₁ v =
+    (cell₁ ≡ flat (lanes (λ i. linkState (laneOf i u) (linkOf i rotation feedback) (cell 4 cell₀ i))))
+    × (v ≡ lanes (λ i. linkOutput (laneOf i u) (linkOf i rotation feedback) (cell 4 cell₀ i)))
 
 -- the number n of what is lent is 8 (in the code's words, a + 8 - a)
 module _ (k n : ℕ) (xs : List Float) (eight : n ≡ 8) (room : 8 * k + 8 ≤ length xs) (i : ℕ) (l : i < 4) where
@@ -67,10 +72,10 @@ module _ (k n : ℕ) (xs : List Float) (eight : n ≡ 8) (room : 8 * k + 8 ≤ l
           by-parts (put-behind (8 * k) n xs ys inside (8 * j + i) nan (omega (arith, long)) (omega (arith, long)))
           (put-behind (8 * k) n xs ys inside (8 * j + i + 4) nan (omega (arith, long)) (omega (arith, long)))
 
-  pub link-step : {u rotation : Pair} {feedback : Four} {ys : List Float} {v : Pair} → Linked (part (8 * k) n xs) u rotation feedback ys v
+  pub link-step : (u rotation : Pair) (feedback : Four) {ys : List Float} {v : Pair} → Linked (part (8 * k) n xs) u rotation feedback ys v
       → Step k (laneOf i u) (linkOf i rotation feedback) (on i xs) (on i (put (8 * k) n xs ys)) (laneOf i v)
-  link-step {u} {rotation} {feedback} {ys} {v} r =
+  link-step u rotation feedback {ys} {v} r =
       record {
-        state = rw (← lent, ← lane-of (λ j. linkState (laneOf j u) (linkOf j rotation feedback) (cell 4 (part (8 * k) n xs) j)) i l) (back-in ys _ (r .state));
-        output = ap (laneOf i) (r .output) ∙ lane-of (λ j. linkOutput (laneOf j u) (linkOf j rotation feedback) (cell 4 (part (8 * k) n xs) j)) i l ∙ ap (linkOutput (laneOf i u) (linkOf i rotation feedback)) lent;
+        state = rw (← lent, ← lane-of (λ j. linkState (laneOf j u) (linkOf j rotation feedback) (cell 4 (part (8 * k) n xs) j)) i l) (back-in ys _ (r .0));
+        output = ap (laneOf i) (r .1) ∙ lane-of (λ j. linkOutput (laneOf j u) (linkOf j rotation feedback) (cell 4 (part (8 * k) n xs) j)) i l ∙ ap (linkOutput (laneOf i u) (linkOf i rotation feedback)) lent;
       }

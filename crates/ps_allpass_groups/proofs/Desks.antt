@@ -19,12 +19,12 @@ use Rattle.standard.specs.Mixing.{leftOf, rightOf}
 use Rattle.ps_allpass_groups.specs.declared.lanes.Four.{Four}
 use Rattle.ps_allpass_groups.specs.declared.lanes.Pair.{Pair}
 use Rattle.ps_allpass_groups.specs.declared.mixing.Marks.{Marks}
-use Rattle.ps_allpass_groups.specs.Lanes.{numberOf, laneOf, lanes, lanesAt, fourAt, flat}
+use Rattle.ps_allpass_groups.specs.Lanes.{numberOf, laneOf, markOf, lanes, flat}
 use Rattle.ps_allpass_groups.specs.Desk.{chainOn, matrixOn, sampleOn, duckOn, leftOn, rightOn}
-use Rattle.ps_allpass_groups.specs.Rings.{Holds, Stepped}
-use Rattle.ps_allpass_groups.specs.Mixing.{markOf, sidesOf}
+use Rattle.ps_allpass_groups.specs.Rings.{Holds}
 use Rattle.ps_allpass_groups.specs.Groups.{sideOn, Grouped}
-use Rattle.ps_allpass_groups.proofs.OfLanes.{number-of, lane-of}
+use Rattle.ps_allpass_groups.proofs.OfLanes.{number-of, lane-of, lanesAt, fourAt}
+use Rattle.ps_allpass_groups.proofs.Steps.{Stepped}
 
 -- ---- two pairs in a line
 
@@ -65,7 +65,9 @@ module _ (desk : List Float) (a b : Pair) (long : length desk ≡ 136) where
 module _ (turn : ℕ) (t : Float) (held : Bool) (marks : Marks) (part₀ desk₀ part₁ desk₁ : List Float) {s d e : Pair} {f : Four} (long : length desk₀ ≡ 136)
     (read : s ≡ lanesAt desk₀ 108) (step : Stepped turn desk₀ s part₀ part₁ d) (given : f ≡ fourAt desk₀ 116)
     (ducked : e ≡ lanes (λ i. scaled (laneOf i d) (numberOf i f)))
-    (mixed : desk₁ ≡ sidesOf t held (λ i. markOf i marks) (λ i. laneOf i s) (λ i. laneOf i e) desk₀) where
+    (mixed : desk₁ ≡ put 120 16 desk₀
+    (flat (lanes (λ i. leftOf (markOf i marks) (matrixOn t held i desk₀) (laneOf i s) (laneOf i e)))
+    ++ flat (lanes (λ i. rightOf (markOf i marks) (matrixOn t held i desk₀) (laneOf i s) (laneOf i e))))) where
   module _ (i : ℕ) (l : i < 4) where
     sample : laneOf i s ≡ sampleOn i desk₀
     unfolding sampleOn
@@ -77,7 +79,7 @@ module _ (turn : ℕ) (t : Float) (held : Bool) (marks : Marks) (part₀ desk₀
 
     quiet : (c : Channel) → Holds turn (on i part₀) c → laneOf i e ≡ scaled (thirdOutput (chainOn i desk₀) c) (duckOn i desk₀)
     quiet c r =
-        ap (laneOf i) ducked ∙ lane-of (λ j. scaled (laneOf j d) (numberOf j f)) i l ∙ ap₂ (λ (z : Complex) (g : Float). scaled z g) (step .output i l c r) duck
+        ap (laneOf i) ducked ∙ lane-of (λ j. scaled (laneOf j d) (numberOf j f)) i l ∙ ap₂ (λ (z : Complex) (g : Float). scaled z g) (step i l c r .1) duck
 
   a : Pair
   a = lanes (λ i. leftOf (markOf i marks) (matrixOn t held i desk₀) (laneOf i s) (laneOf i e))
@@ -86,7 +88,7 @@ module _ (turn : ℕ) (t : Float) (held : Bool) (marks : Marks) (part₀ desk₀
   b = lanes (λ i. rightOf (markOf i marks) (matrixOn t held i desk₀) (laneOf i s) (laneOf i e))
 
   both : desk₁ ≡ put 120 16 desk₀ (flat a ++ flat b)
-  unfolding sidesOf a b
+  unfolding a b
   both = mixed
 
   left-side : (i : ℕ) → i < 4 → (c : Channel) → Holds turn (on i part₀) c → leftOn i desk₁ ≡ sideOn leftOf t held (markOf i marks) i desk₀ c
@@ -108,7 +110,7 @@ module _ (turn : ℕ) (t : Float) (held : Bool) (marks : Marks) (part₀ desk₀
   pub grouped : Grouped turn t held (λ i. markOf i marks) part₀ desk₀ part₁ desk₁
   grouped =
       record {
-        own = λ i l c r. subst (λ (x : Complex). Holds (turn + 1) (on i part₁) (channelAfter (chainOn i desk₀) c x)) (sample i l) (step .own i l c r);
+        own = λ i l c r. subst (λ (x : Complex). Holds (turn + 1) (on i part₁) (channelAfter (chainOn i desk₀) c x)) (sample i l) (step i l c r .0);
         left = left-side;
         right = right-side;
         kept = ap (take 120) both ∙ front-kept desk₀ a b long;

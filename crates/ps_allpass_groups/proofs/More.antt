@@ -17,7 +17,7 @@ use Rattle.lists.proofs.Parts.{tail-lent, part-length, part-put, part-put-befor
 use Rattle.ps_map.specs.Bands.{conjugatedOf}
 use Rattle.standard.specs.Mixing.{leftOf, rightOf}
 use Rattle.ps_allpass_groups.specs.declared.mixing.Marks.{Marks}
-use Rattle.ps_allpass_groups.specs.Mixing.{markOf, Marked}
+use Rattle.ps_allpass_groups.specs.Lanes.{markOf}
 use Rattle.ps_allpass_groups.specs.Groups.{sideOn, Grouped, AllGrouped}
 
 -- a part as `&mut s[a..a + n]` lends it, and the list once it is back
@@ -88,12 +88,12 @@ module _ (l : Layout) (turn : ℕ) (t : Float) (held : Bool) (delays₀ desks₀
               part-put-before (136 * g) 136 desks zs (omega arith) (136 * k) 136 (omega arith),
             ) (sofar .done k less)
 
-    pub more : (marks : Marks) → Marked l g marks → Grouped turn t held (λ i. markOf i marks) (lentOf (112 * g) 112 delays) (lentOf (136 * g) 136 desks) ys zs
+    pub more : (marks : Marks) → ((i : ℕ) → i < 4 → markOf i marks ≡ conjugatedOf l (4 * g + i)) → Grouped turn t held (λ i. markOf i marks) (lentOf (112 * g) 112 delays) (lentOf (136 * g) 136 desks) ys zs
         → SoFar (g + 1) (putOf (112 * g) 112 delays ys) (putOf (136 * g) 136 desks zs)
     more marks m r =
         rw (add-sub-cancel-left (112 * g) 112, add-sub-cancel-left (136 * g) 136)
         (exact
-        (marked-by turn t held (λ i. markOf i marks) (λ i. conjugatedOf l (4 * g + i)) (part (112 * g) 112 delays) (part (136 * g) 136 desks) ys zs (m .is)
+        (marked-by turn t held (λ i. markOf i marks) (λ i. conjugatedOf l (4 * g + i)) (part (112 * g) 112 delays) (part (136 * g) 136 desks) ys zs m
         (rw (add-sub-cancel-left (112 * g) 112, add-sub-cancel-left (136 * g) 136) at r)))
 
   pub all : (g : ℕ) (delays desks : List Float) → g ≡ groupsOf l → SoFar g delays desks → AllGrouped l turn t held delays₀ desks₀ delays desks

@@ -8,9 +8,9 @@ use lib.ListN.{getD}
 use Rattle.complex.specs.declared.Complex.{Complex}
 use Rattle.planar.specs.Cells.{cell}
 use Rattle.standard.specs.declared.Link.{Link}
+use Rattle.ps_allpass_groups.specs.declared.lanes.Four.{Four}
 use Rattle.ps_allpass_groups.specs.declared.lanes.Pair.{Pair}
-use Rattle.ps_allpass_groups.specs.Lanes.{numberOf, laneOf, four, lanes, fourAt, lanesAt, flat}
-use Rattle.ps_allpass_groups.specs.Links.{linkOf}
+use Rattle.ps_allpass_groups.specs.Lanes.{numberOf, laneOf, linkOf, four, lanes, flat}
 
 pub number-of : (f : ℕ → Float) (i : ℕ) → i < 4 → numberOf i (four f) ≡ f i
 number-of f zero l = refl
@@ -48,6 +48,13 @@ lanes-same f g e =
 
 pub link-by-parts : {x y : Link} → x .rotation ≡ y .rotation → x .feedback ≡ y .feedback → x ≡ y
 link-by-parts p q = λ i. record { rotation = p i; feedback = q i }
+
+-- those that stand from a place on: four numbers; the real parts of four complex numbers, then the imaginary parts
+abbrev pub fourAt : List Float → ℕ → Four
+fourAt xs at = four (λ i. getD xs (at + i) nan)
+
+abbrev pub lanesAt : List Float → ℕ → Pair
+lanesAt xs at = lanes (λ i. cell 4 xs (at + i))
 
 -- a link's constants, read from where they stand
 abbrev pub linkAt : ℕ → List Float → Link

@@ -1,9 +1,9 @@
 -- The channel that cells hold, read out of them, and the cells of a channel. Assumes nothing.
-use mathlib.Core.Path.{_≡_, sym, ap, _∙_}
+use mathlib.Core.Path.{_≡_}
 use Prim.Native.Nat.{ℕ, _+_, _<_}
 use native.Mathlib.Omega.{arith}
 use Rattle.complex.specs.declared.Complex.{Complex}
-use Rattle.lists.proofs.Ring.{ring-same, ring-cell}
+use Rattle.lists.proofs.Ring.{ring-cell}
 use Rattle.planar.specs.Rings.{ringCell, ringed}
 use Rattle.planar.proofs.Rings.{ring-ringed}
 use Rattle.standard.specs.Channel.{Channel}
@@ -19,14 +19,11 @@ readChannel t f =
       third = ringed 5 t (λ j. f (9 + j));
     }
 
-from-the-first : (f : ℕ → Complex) (j : ℕ) → f (0 + j) ≡ f j
-from-the-first f j = ap f (omega arith)
-
 -- whatever stands in the cells, they hold that channel
 pub holds-read : (t : ℕ) (f : ℕ → Complex) → Holds t f (readChannel t f)
 holds-read t f =
     record {
-      past = ring-same (λ j l. from-the-first f j) (ring-ringed 2 t (omega arith) f);
+      past = ring-ringed 2 t (omega arith) f;
       first = ring-ringed 3 t (omega arith) (λ j. f (2 + j));
       second = ring-ringed 4 t (omega arith) (λ j. f (5 + j));
       third = ring-ringed 5 t (omega arith) (λ j. f (9 + j));
@@ -42,7 +39,7 @@ pub record CellsOf (t : ℕ) (f : ℕ → Complex) (c : Channel) : Type 0 where
 pub holds-cells : (t : ℕ) (f : ℕ → Complex) (c : Channel) → Holds t f c → CellsOf t f c
 holds-cells t f c r =
     record {
-      past = λ j l. sym (from-the-first f j) ∙ ring-cell t (r .past) j l;
+      past = ring-cell t (r .past);
       first = ring-cell t (r .first);
       second = ring-cell t (r .second);
       third = ring-cell t (r .third);

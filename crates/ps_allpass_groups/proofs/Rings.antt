@@ -7,11 +7,17 @@ use Prim.Native.Nat.{ℕ, _+_, _%_, _<_}
 use native.Mathlib.Omega.{arith}
 use Rattle.complex.specs.declared.Complex.{Complex}
 use Rattle.complex.specs.Operations.{product}
+use Rattle.lists.specs.Ring.{Ring}
 use Rattle.lists.proofs.Ring.{ring-read, ring-push, ring-same, turned-counter}
 use Rattle.standard.specs.declared.Chain.{Chain}
+use Rattle.standard.specs.Numbers.{nought}
 use Rattle.standard.specs.Channel.{Channel, linkState, linkOutput, rotated, firstOutput, secondOutput, thirdOutput, channelAfter}
-use Rattle.ps_allpass_groups.specs.Rings.{RingOf, Holds}
+use Rattle.ps_allpass_groups.specs.Rings.{Holds}
 use Rattle.ps_allpass_groups.proofs.Cells.{Put, Step}
+
+-- d cells from `base` on are the ring of a history, after t slots
+abbrev RingOf : ℕ → ℕ → ℕ → (ℕ → Complex) → List Complex → Type 0
+RingOf base d t f h = Ring nought d (t % d) (λ j. f (base + j)) h
 
 -- a write at the ring's position, and one elsewhere
 module _ (base d t : ℕ) {k : ℕ} {v : Complex} {f₀ f : ℕ → Complex} {h : List Complex} (r : RingOf base d t f₀ h) (p : Put k v f₀ f) where
@@ -28,7 +34,7 @@ module _ (t : ℕ) (chain : Chain) (c : Channel) (x : Complex) {f₀ f₁ f₂ f
     (two : Step (5 + t % 4) v (chain .second) f₂ f₃ w) (three : Step (9 + t % 5) w (chain .third) f₃ f₄ y) where
   is-rotated : u ≡ rotated chain c
   unfolding rotated
-  is-rotated = turned ∙ ap (product (chain .fractional)) (ap f₀ (omega arith) ∙ ring-read (r .past))
+  is-rotated = turned ∙ ap (product (chain .fractional)) (ring-read (r .past))
 
   first₁ : RingOf 2 3 t f₁ (c .first)
   first₁ = ring-off 2 3 t (r .first) enter (λ j l (e : 2 + j ≡ t % 2). omega arith)
@@ -56,7 +62,7 @@ module _ (t : ℕ) (chain : Chain) (c : Channel) (x : Complex) {f₀ f₁ f₂ f
   is-third = three .output ∙ ap₂ (λ (a b : Complex). linkOutput a (chain .third) b) is-second (ring-read third₃)
 
   past₁ : RingOf 0 2 (t + 1) f₁ (x ∷ c .past)
-  past₁ = ring-in 0 2 t (r .past) enter (omega arith) (omega arith)
+  past₁ = ring-in 0 2 t (ring-same (λ j l. ap f₀ (omega arith)) (r .past)) enter (omega arith) (omega arith)
 
   first₂ : RingOf 2 3 (t + 1) f₂ (linkState u (chain .first) (f₁ (2 + t % 3)) ∷ c .first)
   first₂ = ring-in 2 3 t first₁ (one .state) refl (omega arith)
@@ -72,9 +78,10 @@ module _ (t : ℕ) (chain : Chain) (c : Channel) (x : Complex) {f₀ f₁ f₂ f
   held =
       record {
         past =
-            ring-off 0 2 (t + 1)
+            ring-same (λ j l. ap f₄ (omega arith))
+            (ring-off 0 2 (t + 1)
             (ring-off 0 2 (t + 1) (ring-off 0 2 (t + 1) past₁ (one .state) (λ j l (e : 0 + j ≡ 2 + t % 3). omega arith)) (two .state)
-            (λ j l (e : 0 + j ≡ 5 + t % 4). omega arith)) (three .state) (λ j l (e : 0 + j ≡ 9 + t % 5). omega arith);
+            (λ j l (e : 0 + j ≡ 5 + t % 4). omega arith)) (three .state) (λ j l (e : 0 + j ≡ 9 + t % 5). omega arith));
         first =
             rw (← is-rotated, ← ring-read first₁)
             (ring-off 2 3 (t + 1) (ring-off 2 3 (t + 1) first₂ (two .state) (λ j l (e : 2 + j ≡ 5 + t % 4). omega arith)) (three .state)

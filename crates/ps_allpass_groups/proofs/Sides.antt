@@ -15,11 +15,10 @@ use Rattle.lists.proofs.Parts.{part-length, tail-back, put-line}
 use Rattle.standard.specs.Mixing.{taken, leftOf, rightOf}
 use Rattle.ps_allpass_groups.specs.declared.lanes.Pair.{Pair}
 use Rattle.ps_allpass_groups.specs.declared.mixing.Marks.{Marks}
-use Rattle.ps_allpass_groups.specs.Lanes.{laneOf, lanes, flat}
+use Rattle.ps_allpass_groups.specs.Lanes.{laneOf, markOf, lanes, flat}
 use Rattle.ps_allpass_groups.specs.Desk.{matrixOn}
-use Rattle.ps_allpass_groups.specs.Mixing.{markOf, onWay}
 use Rattle.ps_allpass_groups.proofs.OfLanes.{lane-of, lanes-same}
-use Rattle.ps_allpass_groups.proofs.Ways.{way-11, way-12, way-21, way-22}
+use Rattle.ps_allpass_groups.proofs.Ways.{onWay, way-11, way-12, way-21, way-22}
 
 -- ---- a side: two coefficients, each taken and multiplied, and their sum
 
@@ -37,25 +36,25 @@ module _ (marks : Marks) (i : ℕ) (l : i < 4) where
 module _ (desk : List Float) (t : Float) (held : Bool) (marks : Marks) (s d : Pair) {w h m v g n o : Pair} (took : h ≡ lanes (λ j. taken (markOf j marks) (laneOf j w)))
     (made : m ≡ lanes (λ j. product (laneOf j h) (laneOf j s))) (took₂ : g ≡ lanes (λ j. taken (markOf j marks) (laneOf j v)))
     (made₂ : n ≡ lanes (λ j. product (laneOf j g) (laneOf j d))) (added : o ≡ lanes (λ j. sum (laneOf j m) (laneOf j n))) where
-  pub is-left : w ≡ lanes (λ j. onWay desk t held (44 + j)) → v ≡ lanes (λ j. onWay desk t held (60 + j))
+  pub is-left : w ≡ lanes (onWay desk t held 44) → v ≡ lanes (onWay desk t held 60)
       → o ≡ lanes (λ j. leftOf (markOf j marks) (matrixOn t held j desk) (laneOf j s) (laneOf j d))
   unfolding leftOf
   is-left way way₂ =
       added
       ∙ lanes-same (λ j. sum (laneOf j m) (laneOf j n)) (λ j. leftOf (markOf j marks) (matrixOn t held j desk) (laneOf j s) (laneOf j d))
       (λ i l. ap₂ (λ (a b : Complex). sum a b)
-      (multiplied marks i l (λ j. onWay desk t held (44 + j)) s way took made ∙ ap (λ (z : Complex). product (taken (markOf i marks) z) (laneOf i s)) (way-11 desk t i held))
-      (multiplied marks i l (λ j. onWay desk t held (60 + j)) d way₂ took₂ made₂ ∙ ap (λ (z : Complex). product (taken (markOf i marks) z) (laneOf i d)) (way-21 desk t i held)))
+      (multiplied marks i l (onWay desk t held 44) s way took made ∙ ap (λ (z : Complex). product (taken (markOf i marks) z) (laneOf i s)) (way-11 desk t i held))
+      (multiplied marks i l (onWay desk t held 60) d way₂ took₂ made₂ ∙ ap (λ (z : Complex). product (taken (markOf i marks) z) (laneOf i d)) (way-21 desk t i held)))
 
-  pub is-right : w ≡ lanes (λ j. onWay desk t held (52 + j)) → v ≡ lanes (λ j. onWay desk t held (68 + j))
+  pub is-right : w ≡ lanes (onWay desk t held 52) → v ≡ lanes (onWay desk t held 68)
       → o ≡ lanes (λ j. rightOf (markOf j marks) (matrixOn t held j desk) (laneOf j s) (laneOf j d))
   unfolding rightOf
   is-right way way₂ =
       added
       ∙ lanes-same (λ j. sum (laneOf j m) (laneOf j n)) (λ j. rightOf (markOf j marks) (matrixOn t held j desk) (laneOf j s) (laneOf j d))
       (λ i l. ap₂ (λ (a b : Complex). sum a b)
-      (multiplied marks i l (λ j. onWay desk t held (52 + j)) s way took made ∙ ap (λ (z : Complex). product (taken (markOf i marks) z) (laneOf i s)) (way-12 desk t i held))
-      (multiplied marks i l (λ j. onWay desk t held (68 + j)) d way₂ took₂ made₂ ∙ ap (λ (z : Complex). product (taken (markOf i marks) z) (laneOf i d)) (way-22 desk t i held)))
+      (multiplied marks i l (onWay desk t held 52) s way took made ∙ ap (λ (z : Complex). product (taken (markOf i marks) z) (laneOf i s)) (way-12 desk t i held))
+      (multiplied marks i l (onWay desk t held 68) d way₂ took₂ made₂ ∙ ap (λ (z : Complex). product (taken (markOf i marks) z) (laneOf i d)) (way-22 desk t i held)))
 
 -- ---- on the desk
 

@@ -13,15 +13,21 @@ use Rattle.planar.specs.Cells.{cell}
 use Rattle.planar.specs.Lanes.{on}
 use Rattle.lists.specs.Part.{part, put}
 use Rattle.standard.specs.declared.Link.{Link}
+use Rattle.standard.specs.Channel.{Channel, channelAfter, thirdOutput}
 use Rattle.ps_allpass_groups.specs.declared.lanes.Four.{Four}
 use Rattle.ps_allpass_groups.specs.declared.lanes.Pair.{Pair}
-use Rattle.ps_allpass_groups.specs.Lanes.{laneOf, lanes, lanesAt, fourAt, flat}
-use Rattle.ps_allpass_groups.specs.Links.{linkOf, Linked}
+use Rattle.ps_allpass_groups.specs.Lanes.{laneOf, linkOf, lanes, flat}
 use Rattle.ps_allpass_groups.specs.Desk.{chainOn}
-use Rattle.ps_allpass_groups.specs.Rings.{Stepped}
-use Rattle.ps_allpass_groups.proofs.OfLanes.{lane-of, linkAt, link-read}
-use Rattle.ps_allpass_groups.proofs.Cells.{Put, Step, back-in, link-step}
+use Rattle.ps_allpass_groups.specs.Rings.{Holds}
+use Rattle.ps_allpass_groups.proofs.OfLanes.{lane-of, lanesAt, fourAt, linkAt, link-read}
+use Rattle.ps_allpass_groups.proofs.Cells.{Put, Step, Linked, back-in, link-step}
 use Rattle.ps_allpass_groups.proofs.Rings.{is-third, held}
+
+-- a part one slot later, x having come in, and what comes out: whatever channels it held, they are one slot further
+abbrev pub Stepped : ℕ → List Float → Pair → List Float → List Float → Pair → Type 0
+Stepped t desk x part₀ part₁ y =
+    (i : ℕ) → i < 4 → (c : Channel) → Holds t (on i part₀) c
+    → Holds (t + 1) (on i part₁) (channelAfter (chainOn i desk) c (laneOf i x)) × (laneOf i y ≡ thirdOutput (chainOn i desk) c)
 
 -- a cell as `&mut part[a..a + 8]` lends it, and the part when it is back
 abbrev pub lentAt : ℕ → List Float → List Float
@@ -93,30 +99,29 @@ module _ (t : ℕ) (desk : List Float) (x : Pair) (part₀ e₀ e₁ e₂ e₃ :
         (ap (laneOf i) read₀ ∙ lane-of (λ j. cell 4 desk (0 + j)) i l ∙ ap (cell 4 desk) (omega arith))
         (ap (laneOf i) delayed ∙ lane-of (λ j. cell 4 part₀ (8 * (t % 2) + j)) i l)
 
-    step : (k at : ℕ) (a : List Float) {b : List Float} {z q s : Pair} {f : Four} {e : List Float} → k < 14 → length a ≡ 112 → b ≡ putAt k a e → q ≡ lanesAt desk at → f ≡ fourAt desk (at + 8)
+    step : (k at : ℕ) (a : List Float) (z q : Pair) (f : Four) {s : Pair} {b e : List Float} → k < 14 → length a ≡ 112 → b ≡ putAt k a e → q ≡ lanesAt desk at → f ≡ fourAt desk (at + 8)
         → Linked (lentAt k a) z q f e s → Step k (laneOf i z) (linkAt (at + i) desk) (on i a) (on i b) (laneOf i s)
-    step k at a {b} {z} {q} {s} {f} {e} few long back read given r =
+    step k at a z q f {s} {b} {e} few long back read given r =
         let is : linkOf i q f ≡ linkAt (at + i) desk = ap₂ (λ (m : Pair) (n : Four). linkOf i m n) read given ∙ link-read desk at i l in
         rw back
         (subst (λ (m : Link). Step k (laneOf i z) m (on i a) (on i (putAt k a e)) (laneOf i s)) is
-        (link-step k _ a (add-sub-cancel-left (8 * k) 8) (omega arith) i l r))
+        (link-step k _ a (add-sub-cancel-left (8 * k) 8) (omega arith) i l z q f r))
 
     first-step : Step (2 + t % 3) (laneOf i u) (chainOn i desk .first) (on i part₁) (on i part₂) (laneOf i v)
     unfolding chainOn part₁ part₂
-    first-step = step (2 + t % 3) 8 part₁ (omega arith) long₁ refl read₁ given₁ one
+    first-step = step (2 + t % 3) 8 part₁ u q₁ f₁ (omega arith) long₁ refl read₁ given₁ one
 
     second-step : Step (5 + t % 4) (laneOf i v) (chainOn i desk .second) (on i part₂) (on i part₃) (laneOf i w)
     unfolding chainOn part₂ part₃
-    second-step = step (5 + t % 4) 20 part₂ (omega arith) long₂ refl read₂ given₂ two
+    second-step = step (5 + t % 4) 20 part₂ v q₂ f₂ (omega arith) long₂ refl read₂ given₂ two
 
     third-step : Step (9 + t % 5) (laneOf i w) (chainOn i desk .third) (on i part₃) (on i part₄) (laneOf i y)
     unfolding chainOn part₃ part₄
-    third-step = step (9 + t % 5) 32 part₃ (omega arith) long₃ refl read₃ given₃ three
+    third-step = step (9 + t % 5) 32 part₃ w q₃ f₃ (omega arith) long₃ refl read₃ given₃ three
 
   pub stepped : Stepped t desk x part₀ (third₄ t part₀ e₀ e₁ e₂ e₃) y
   unfolding part₄
-  stepped =
-      record {
-        own = λ i l c r. held t (chainOn i desk) c (laneOf i x) r (enter i l) (is-turned i l) (first-step i l) (second-step i l) (third-step i l);
-        output = λ i l c r. is-third t (chainOn i desk) c (laneOf i x) r (enter i l) (is-turned i l) (first-step i l) (second-step i l) (third-step i l);
-      }
+  stepped i l c r = (
+    held t (chainOn i desk) c (laneOf i x) r (enter i l) (is-turned i l) (first-step i l) (second-step i l) (third-step i l),
+    is-third t (chainOn i desk) c (laneOf i x) r (enter i l) (is-turned i l) (first-step i l) (second-step i l) (third-step i l),
+  )

@@ -1,10 +1,11 @@
 // Four numbers and four complex numbers side by side, so that one instruction serves four channels. Private to the crate.
 ghost use mathlib.Core.Path.{_≡_};
 ghost use Prim.Native.Nat.{_+_, _≤_};
-ghost use lib.Ieee.{binary64, add, sub, mul};
-ghost use lib.ListN.{length};
+ghost use lib.Ieee.{nan, binary64, add, sub, mul};
+ghost use lib.ListN.{length, getD};
 ghost use Rattle.complex.specs.Operations.{product, sum, difference, scaled};
-ghost use Rattle.ps_allpass_groups.specs.Lanes.{numberOf, laneOf, four, lanes, fourAt, lanesAt, flat};
+ghost use Rattle.planar.specs.Cells.{cell};
+ghost use Rattle.ps_allpass_groups.specs.Lanes.{numberOf, laneOf, four, lanes, flat};
 
 pub struct Four {
     pub a: f64,
@@ -67,7 +68,7 @@ impl Four {
 
     pub fn at(xs: &[f64], at: usize) -> Four
         requires { ⌜ at + 4 ≤ length (now xs) ⌝ }
-        ensures { λ r. ⌜ r ≡ fourAt (now (xs .entry)) at ⌝ }
+        ensures { λ r. ⌜ r ≡ four (λ i. getD (now (xs .entry)) (at + i) nan) ⌝ }
     {
         Four {
             a: xs[at],
@@ -117,7 +118,7 @@ impl Pair {
 
     pub fn at(xs: &[f64], at: usize) -> Pair
         requires { ⌜ at + 8 ≤ length (now xs) ⌝ }
-        ensures { λ r. ⌜ r ≡ lanesAt (now (xs .entry)) at ⌝ }
+        ensures { λ r. ⌜ r ≡ lanes (λ i. cell 4 (now (xs .entry)) (at + i)) ⌝ }
     {
         Pair {
             re: Four::at(xs, at),

@@ -9,15 +9,16 @@ use lanes::Pair;
 use layout::Layout;
 use mixing::Marks;
 ghost use mathlib.Core.Path.{_≡_};
-ghost use Prim.Native.Nat.{_*_, _≤_};
+ghost use Prim.Native.Nat.{ℕ, _+_, _*_, _≤_, _<_};
 ghost use lib.ListN.{length};
 ghost use Rattle.layout.specs.Numbers.{groupsOf};
+ghost use Rattle.ps_map.specs.Bands.{conjugatedOf};
+ghost use Rattle.ps_allpass_groups.specs.Lanes.{markOf};
 ghost use Rattle.ps_allpass_groups.specs.Groups.{Grouped, AllGrouped, Slotted};
-ghost use Rattle.ps_allpass_groups.specs.Mixing.{markOf, Marked};
 
 // Which channels of a group are marked with *: 0 and 1 of 71, and 9, 10 and 11 of 91.
 fn marks(layout: Layout, g: usize) -> Marks
-    ensures { λ r. ⌜ Marked layout g r ⌝ }
+    ensures { λ r. ⌜ ((i : ℕ) → i < 4 → markOf i r ≡ conjugatedOf layout (4 * g + i)) ⌝ }
 {
     match layout {
         Layout::Bands20 => {

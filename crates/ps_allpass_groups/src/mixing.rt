@@ -4,12 +4,16 @@ use super::lanes::Four;
 use super::lanes::Pair;
 ghost use mathlib.Core.Bool.{cond};
 ghost use mathlib.Core.Path.{_≡_};
+ghost use mathlib.Core.List.{_++_};
 ghost use Prim.Native.Nat.{_+_, _≤_};
 ghost use lib.Ieee.{neg};
 ghost use lib.ListN.{length};
+ghost use Rattle.complex.specs.Operations.{sum, scaled};
+ghost use Rattle.lists.specs.Part.{put};
+ghost use Rattle.planar.specs.Cells.{cell};
 ghost use Rattle.standard.specs.Mixing as mixing;
-ghost use Rattle.ps_allpass_groups.specs.Lanes.{laneOf, lanes};
-ghost use Rattle.ps_allpass_groups.specs.Mixing.{markOf, onWay, sidesOf};
+ghost use Rattle.ps_allpass_groups.specs.Lanes.{laneOf, markOf, lanes, flat};
+ghost use Rattle.ps_allpass_groups.specs.Desk.{matrixOn};
 
 // Which of four channels are marked with *: none where `any` is false. Few groups have any.
 pub struct Marks {
@@ -49,7 +53,8 @@ fn taken(marks: Marks, h: Pair) -> Pair
 // One coefficient of a slot, from + step t. What is held is never from + (from - from) t, which may round.
 fn on_way(desk: &[f64], at: usize, t: f64, held: bool) -> Pair
     requires { ⌜ (length (now desk) ≡ 136) × (at + 40 ≤ 136) ⌝ }
-    ensures { λ r. ⌜ r ≡ lanes (λ i. onWay (now (desk .entry)) t held (at + i)) ⌝ }
+    ensures { λ r. ⌜ r ≡ lanes (λ i. cond held (cell 4 (now (desk .entry)) (at + i))
+        (sum (cell 4 (now (desk .entry)) (at + i)) (scaled (cell 4 (now (desk .entry)) (at + 32 + i)) t))) ⌝ }
 {
     let from = Pair::at(desk, at);
     if held {
@@ -61,7 +66,9 @@ fn on_way(desk: &[f64], at: usize, t: f64, held: bool) -> Pair
 // Both sides of a slot, from the coefficients on the desk to their places there.
 pub fn mix(desk: &mut [f64], t: f64, held: bool, marks: Marks, s: Pair, d: Pair)
     requires { ⌜ length (now desk) ≡ 136 ⌝ }
-    ensures { λ _. ⌜ now (desk .exit) ≡ sidesOf t held (λ i. markOf i marks) (λ i. laneOf i s) (λ i. laneOf i d) (now (desk .entry)) ⌝ }
+    ensures { λ _. ⌜ now (desk .exit) ≡ put 120 16 (now (desk .entry))
+        (flat (lanes (λ i. mixing.leftOf (markOf i marks) (matrixOn t held i (now (desk .entry))) (laneOf i s) (laneOf i d)))
+        ++ flat (lanes (λ i. mixing.rightOf (markOf i marks) (matrixOn t held i (now (desk .entry))) (laneOf i s) (laneOf i d)))) ⌝ }
 {
     let h11 = taken(marks, on_way(desk, 44, t, held));
     let h12 = taken(marks, on_way(desk, 52, t, held));

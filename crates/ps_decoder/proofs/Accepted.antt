@@ -25,7 +25,7 @@ use Rattle.ps_state.specs.State.{coreOf, playingOf, stored}
 use Rattle.ps_state.specs.Ready.{switchedFrom, readied}
 use Rattle.ps_state.specs.Shape.{Shaped}
 use Rattle.ps_state.proofs.Alike.{stored-near}
-use Rattle.ps_state.proofs.Readied.{near-readied, readied-history}
+use Rattle.ps_state.proofs.Readied.{near-readied, shaped-readied, readied-history}
 use Rattle.standard.specs.Core as core
 use Rattle.standard.specs.Core.{Frame, Core, sameLayout, ready, leftAt, rightAt}
 use Rattle.standard.specs.Hybrid.{hybrid, synthesised}
@@ -125,7 +125,7 @@ module _ (s : PsDecoder) (shaped : Shaped s) (c : Call) (h : Header) (said : hea
   module _ (fits : buffersFit (slotsOf (s .asked)) (length (c .input)) (length (c .left)) (length (c .right)) ≡ true) where
     staged : Stages made h (resolved before c .indices) (resolved before c .positions) (c .input) (c .left) (c .right) (c .edge)
     staged =
-        sound-is made h (resolved before c .indices) (resolved before c .positions) (c .input) (c .left) (c .right) (c .edge)
+        sound-is made (shaped-readied s (layout before c) (c .edge) shaped) h (resolved before c .indices) (resolved before c .positions) (c .input) (c .left) (c .right) (c .edge)
         (fitting-of made (c .input) (c .left) (c .right) (rw same-slots fits))
 
     pub state-is : sounded made h (resolved before c .indices) (resolved before c .positions) (c .input) (c .left) (c .right) (resolved before c .lines) ≡ stored made (after before c)

@@ -12,7 +12,8 @@ use lib.ListN.{length, getD}
 use Rattle.complex.specs.declared.Complex.{Complex}
 use Rattle.complex.specs.Operations.{scaled}
 use Rattle.layout.specs.declared.Layout.{Layout}
-use Rattle.layout.specs.Numbers.{allPassOf, groupsOf}
+use Rattle.layout.specs.Numbers.{bandsOf, allPassOf, groupsOf, unsplitFromOf}
+use Rattle.limits.specs.Limits as limits
 use Rattle.lists.proofs.Maps.{tabulate-same}
 use Rattle.planar.specs.Frame.{sampleIn, qmfAt, qmfRows, qmfBandOf}
 use Rattle.ps_allpass_channels.specs.Channels as chains
@@ -30,8 +31,8 @@ use Rattle.standard.specs.Mixing.{leftOf, rightOf}
 use Rattle.standard.proofs.Frames.{channel-same}
 use Rattle.ps_decoder.proofs.Flat.{Flat, timingOf, column-is}
 
-module _ {f : Frame} {s : Core} {places : List ℕ} {count turn : ℕ} {samples input gains rows delays long short : List Float}
-    (flat : Flat f s places count turn samples input gains rows delays long short) where
+module _ {f : Frame} {s : Core} {places : List ℕ} {count turn : ℕ} {samples input gains rows delays plain : List Float}
+    (flat : Flat f s places count turn samples input gains rows delays plain) where
   abbrev l : Layout
   l = f .head .layout
 
@@ -74,7 +75,7 @@ module _ {f : Frame} {s : Core} {places : List ℕ} {count turn : ℕ} {samples 
   lowAt side old n q = cond (ltb q (qmfBandOf l (allPassOf l))) (synthesised l (chains.sideAt l timing (rotationsOf l) samples gains rows input delays side n) q) (qmfAt old n q)
 
   -- ---- what they leave, where the outputs have exactly a frame's rows
-  module _ (left right : List Float) (few : slots ≤ 32) (left-long : length left ≡ 128 * slots) (right-long : length right ≡ 128 * slots) (room : 128 * slots ≤ length input) where
+  module _ (left right : List Float) (left-long : length left ≡ 128 * slots) (right-long : length right ≡ 128 * slots) where
     all-slots : min slots 32 ≡ slots
     all-slots = omega arith
 
@@ -84,6 +85,10 @@ module _ {f : Frame} {s : Core} {places : List ℕ} {count turn : ℕ} {samples 
           eq-eqb (length left) (128 * min slots 32) (left-long ∙ ap (λ (n : ℕ). 128 * n) (omega arith)),
           eq-eqb (length right) (128 * min slots 32) (right-long ∙ ap (λ (n : ℕ). 128 * n) (omega arith)),
           le-leb (128 * min slots 32) (length input) (omega arith),
+          le-leb (64 * unsplitFromOf l) (length samples) (flat .samples-long),
+          le-leb (32 * bandsOf l) (length gains) (flat .gains-long),
+          le-leb (limits.course * bandsOf l) (length rows) (flat .rows-long),
+          le-leb (112 * groupsOf l) (length delays) (flat .delays-long),
         )
 
     pub chains-left : chains.leftAfter l timing (rotationsOf l) samples gains rows input delays left right ≡ qmfRows slots (lowAt leftOf left)

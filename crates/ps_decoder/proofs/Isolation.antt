@@ -1,19 +1,16 @@
 -- A stereo band hears only itself: the theorem of `calls`, for the numbers that `frame` promises. Assumes nothing.
-use Prim.Native.Nat.{ℕ, zero, suc, _+_, _-_, _≤_, _<_}
-use mathlib.Core.Path.{_≡_, refl, sym, ap, _∙_}
+use Prim.Native.Nat.{ℕ, zero, suc}
+use mathlib.Core.Path.{_≡_, refl, _∙_}
 use mathlib.Core.Bool.{Bool, true, false, cond}
-use mathlib.Core.List.{List}
 use lib.Dec.{eqb}
-use lib.Ieee.{Float}
 use Rattle.answer.specs.Number.{numberOf}
 use Rattle.borders.specs.Borders.{slotsOf}
 use Rattle.calls.specs.Call.{Call, Playing, Outcome, fresh, answer, after, played}
 use Rattle.calls.specs.Isolation.{Matching, Alike}
-use Rattle.calls.specs.Run.{carried, outcome}
+use Rattle.calls.specs.Run.{carried}
 use Rattle.calls.proofs.Isolation.{hears-itself}
 use Rattle.calls.proofs.Outcomes.{done, refusal}
 use Rattle.layout.specs.declared.Layout.{Layout}
-use Rattle.planar.specs.Frame.{qmfAt}
 use Rattle.ps_decoder.specs.Isolation.{SameNumbers}
 use Rattle.ps_decoder.proofs.Run.{run-is}
 

@@ -12,4 +12,5 @@ pub mod Run
 pub mod Isolation
 pub mod Refusals
 pub mod Outcomes
+pub mod Lent
 pub mod Assembled

@@ -1,18 +1,18 @@
 -- A run of the decoder from a fresh one answers and writes what the definitions' run does: its numbers always hold a state that is near theirs.
 -- Assumes nothing.
-use Prim.Native.Nat.{ℕ, zero, suc, _+_, _-_, _≤_, _<_}
-use mathlib.Core.Path.{_≡_, refl, sym, ap, _∙_}
+use Prim.Native.Nat.{ℕ, zero, suc}
+use mathlib.Core.Path.{_≡_, sym, ap, _∙_}
 use mathlib.Core.Bool.{Bool, true, false, cond}
 use lib.Dec.{eqb}
 use Rattle.answer.specs.Number.{numberOf}
 use Rattle.borders.specs.Borders.{slotsOf}
 use Rattle.calls.specs.Call.{Call, Playing, Outcome, fresh, answer, layout, after, played}
 use Rattle.calls.specs.Near.{Near}
-use Rattle.calls.specs.Run.{carried, outcome}
-use Rattle.calls.proofs.Outcomes.{NearOutcome, near-played, answered, done, refusal}
+use Rattle.calls.specs.Run.{carried}
+use Rattle.calls.proofs.Outcomes.{near-played, answered, done, refusal}
 use Rattle.calls.proofs.Relation.{near-by, near-itself}
 use Rattle.ps_state.specs.declared.PsDecoder.{PsDecoder}
-use Rattle.ps_state.specs.State.{freshDecoder, playingOf, stored}
+use Rattle.ps_state.specs.State.{playingOf, stored}
 use Rattle.ps_state.specs.Ready.{readied}
 use Rattle.ps_state.specs.Shape.{Shaped}
 use Rattle.ps_state.proofs.Readied.{shaped-readied}
@@ -47,6 +47,9 @@ holding-after s c shaped = go (eqb (numberOf (answer (playingOf s) c)) 0)
           near = near-stored made (after (playingOf s) c) shaped-made slots-kept;
         }
     go false = record { shaped = shaped; near = near-itself (playingOf s) }
+
+pub shaped-after : (s : PsDecoder) (c : Call) → Shaped s → Shaped (decoderAfter s c)
+shaped-after s c shaped = holding-after s c shaped .shaped
 
 -- so every call finds numbers that hold the state of the definitions' run
 holding-at : (asked : ℕ) (c : ℕ → Call) (i : ℕ) → Holding (decoderAt asked c i) (carried (fresh asked) c i)

@@ -8,15 +8,14 @@ use native.Mathlib.Omega.{arith}
 use borrow.Author.Tests.{lt-ltb, le-ltb, ltb-true}
 use lib.Dec.{ltb}
 use lib.Ieee.{Float}
-use lib.ListN.{length}
+use lib.ListN.{length, drop, length-append}
 use Rattle.complex.specs.declared.Complex.{Complex}
 use Rattle.layout.specs.declared.Layout.{Layout}
 use Rattle.layout.specs.Numbers.{unsplitFromOf}
-use Rattle.layout.proofs.Bounds.{bounds}
 use Rattle.lists.specs.Part.{part}
 use Rattle.lists.specs.Rows.{rows}
-use Rattle.lists.proofs.Parts.{part-length}
-use Rattle.lists.proofs.Rows.{rows-part}
+use Rattle.lists.proofs.Parts.{part-front}
+use Rattle.lists.proofs.Rows.{rows-length, rows-part}
 use Rattle.planar.specs.Cells.{cell, planar, overwritten}
 use Rattle.planar.specs.Frame.{sampleAt, qmfAt, qmfBandOf, sampleIn}
 use Rattle.planar.proofs.Cells.{planar-at, planar-length}
@@ -28,46 +27,47 @@ use Rattle.ps_decoder.proofs.Slots.{slotIn, slot-same}
 hybrid-same : (l : Layout) (x y : ℕ → ℕ → Complex) (n k : ℕ) → ((p j : ℕ) → x p j ≡ y p j) → hybrid l x n k ≡ hybrid l y n k
 hybrid-same l x y n k same = ap (λ (z : ℕ → ℕ → Complex). hybrid l z n k) (λ i p j. same p j i)
 
-module _ (l : Layout) (history input samples : List Float) (slots : ℕ) (long : length samples ≡ 2048) where
+module _ (l : Layout) (history input samples : List Float) (slots : ℕ) where
   -- the run of channel k
   abbrev runOf : ℕ → List Float
   runOf k = planar 32 (overwritten slots (λ n. hybrid l (slotAt l history input) n k) (λ n. sampleAt samples n k))
 
-  abbrev rowOf : ℕ → List Float
-  rowOf k = cond (ltb k (unsplitFromOf l)) (runOf k) (part (64 * k) 64 samples)
+  run-length : (k : ℕ) → length (runOf k) ≡ 64
+  run-length k = planar-length 32 (overwritten slots (λ n. hybrid l (slotAt l history input) n k) (λ n. sampleAt samples n k))
 
-  row-length : (k : ℕ) → k < 32 → length (rowOf k) ≡ 64
-  row-length k u = go (ltb k (unsplitFromOf l))
-    where
-      go : (t : Bool) → length (cond t (runOf k) (part (64 * k) 64 samples)) ≡ 64
-      go true = planar-length 32 (overwritten slots (λ n. hybrid l (slotAt l history input) n k) (λ n. sampleAt samples n k))
-      go false = part-length (64 * k) 64 samples (omega arith)
+  runs-length : length (rows runOf (unsplitFromOf l)) ≡ unsplitFromOf l * 64
+  runs-length = rows-length runOf 64 (unsplitFromOf l) (λ k u. run-length k)
 
-  run-at : (k : ℕ) → k < unsplitFromOf l → part (64 * k) 64 (rows rowOf 32) ≡ runOf k
-  run-at k u =
-      let place : 64 * k ≡ k * 64 = omega arith in
-      ap (λ (a : ℕ). part a 64 (rows rowOf 32)) place
-      ∙ rows-part rowOf 64 32 row-length k (let b = bounds l in omega arith)
-      ∙ ap (λ (t : Bool). cond t (runOf k) (part (64 * k) 64 samples)) (lt-ltb k (unsplitFromOf l) u)
+  module _ (room : enough l history input samples slots ≡ true) where
+    pub samples-long : 64 * unsplitFromOf l ≤ length (samplesAfter l history input samples slots)
+    unfolding samplesAfter
+    samples-long = rw room (simp length-append (omega (arith, runs-length)))
 
-  column-same : slots ≤ 32 → enough l history input slots ≡ true → (n k : ℕ) → n < slots → k < unsplitFromOf l
-      → sampleAt (samplesAfter l history input slots samples) n k ≡ hybrid l (slotIn history input) n k
-  unfolding samplesAfter
-  column-same few room n k h u =
-      ap (λ (t : Bool). sampleAt (cond t (rows rowOf 32) samples) n k) room
-      ∙ ap (λ (run : List Float). cell 32 run n) (run-at k u)
-      ∙ planar-at 32 (overwritten slots (λ m. hybrid l (slotAt l history input) m k) (λ m. sampleAt samples m k)) n (omega arith)
-      ∙ ap (λ (t : Bool). cond t (hybrid l (slotAt l history input) n k) (sampleAt samples n k)) (lt-ltb n slots h)
-      ∙ hybrid-same l (slotAt l history input) (slotIn history input) n k (slot-same history input l)
+    run-at : (k : ℕ) → k < unsplitFromOf l → part (64 * k) 64 (samplesAfter l history input samples slots) ≡ runOf k
+    unfolding samplesAfter
+    run-at k u =
+        let place : 64 * k ≡ k * 64 = omega arith in
+        rw room
+        (part-front (64 * k) 64 (rows runOf (unsplitFromOf l)) (drop (64 * unsplitFromOf l) samples) (omega (arith, runs-length))
+        ∙ ap (λ (a : ℕ). part a 64 (rows runOf (unsplitFromOf l))) place
+        ∙ rows-part runOf 64 (unsplitFromOf l) (λ j v. run-length j) k u)
 
-  pub sample-same : slots ≤ 32 → enough l history input slots ≡ true → (n k : ℕ) → n < slots
-      → sampleIn l (samplesAfter l history input slots samples) input n k ≡ hybrid l (slotIn history input) n k
-  unfolding hybrid
-  sample-same few room n k h = go (ltb k (unsplitFromOf l)) refl
-    where
-      go : (t : Bool) → ltb k (unsplitFromOf l) ≡ t
-          → cond t (sampleAt (samplesAfter l history input slots samples) n k) (qmfAt input n (qmfBandOf l k)) ≡ hybrid l (slotIn history input) n k
-      go true e = column-same few room n k h (ltb-true k (unsplitFromOf l) e)
-      go false e =
-          let here : n + 6 - 6 ≡ n = omega arith in
-          rw (e, le-ltb (n + 6) 6 (omega arith), here)
+    column-same : slots ≤ 32 → (n k : ℕ) → n < slots → k < unsplitFromOf l
+        → sampleAt (samplesAfter l history input samples slots) n k ≡ hybrid l (slotIn history input) n k
+    column-same few n k h u =
+        ap (λ (run : List Float). cell 32 run n) (run-at k u)
+        ∙ planar-at 32 (overwritten slots (λ m. hybrid l (slotAt l history input) m k) (λ m. sampleAt samples m k)) n (omega arith)
+        ∙ ap (λ (t : Bool). cond t (hybrid l (slotAt l history input) n k) (sampleAt samples n k)) (lt-ltb n slots h)
+        ∙ hybrid-same l (slotAt l history input) (slotIn history input) n k (slot-same history input l)
+
+    pub sample-same : slots ≤ 32 → (n k : ℕ) → n < slots
+        → sampleIn l (samplesAfter l history input samples slots) input n k ≡ hybrid l (slotIn history input) n k
+    unfolding hybrid
+    sample-same few n k h = go (ltb k (unsplitFromOf l)) refl
+      where
+        go : (t : Bool) → ltb k (unsplitFromOf l) ≡ t
+            → cond t (sampleAt (samplesAfter l history input samples slots) n k) (qmfAt input n (qmfBandOf l k)) ≡ hybrid l (slotIn history input) n k
+        go true e = column-same few n k h (ltb-true k (unsplitFromOf l) e)
+        go false e =
+            let here : n + 6 - 6 ≡ n = omega arith in
+            rw (e, le-ltb (n + 6) 6 (omega arith), here)

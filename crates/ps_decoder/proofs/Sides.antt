@@ -36,8 +36,8 @@ high-band : (l : Layout) (q : ℕ) → qmfBandOf l (allPassOf l) ≤ q → q < 6
     → (allPassOf l ≤ q + unsplitFromOf l - splitOf l) × ((q + unsplitFromOf l - splitOf l < channelsOf l) × (splitOf l ≤ q))
 high-band l q u h = let b = bounds l in (omega arith, (omega arith, omega arith))
 
-module _ {f : Frame} {s : Core} {places : List ℕ} {count turn : ℕ} {samples input gains rows delays long short : List Float}
-    (flat : Flat f s places count turn samples input gains rows delays long short) where
+module _ {f : Frame} {s : Core} {places : List ℕ} {count turn : ℕ} {samples input gains rows delays plain : List Float}
+    (flat : Flat f s places count turn samples input gains rows delays plain) where
   abbrev l : Layout
   l = f .head .layout
 
@@ -60,7 +60,7 @@ module _ {f : Frame} {s : Core} {places : List ℕ} {count turn : ℕ} {samples 
       (λ n q u h. go n q u h (ltb q (qmfBandOf l (allPassOf l))) refl)
     where
       go : (n q : ℕ) → n < slots → q < 64 → (t : Bool) → ltb q (qmfBandOf l (allPassOf l)) ≡ t
-          → cond t (qmfAt (qmfRows slots (lowAt flat side old)) n q) (delayed.sideAt l timing input gains rows long short side n (q + unsplitFromOf l - splitOf l))
+          → cond t (qmfAt (qmfRows slots (lowAt flat side old)) n q) (delayed.sideAt l timing input gains rows plain side n (q + unsplitFromOf l - splitOf l))
           ≡ synthesised l (sideOf side n) q
       go n q u h true e =
           let low : q < qmfBandOf l (allPassOf l) = ltb-true q (qmfBandOf l (allPassOf l)) e in
@@ -73,7 +73,7 @@ module _ {f : Frame} {s : Core} {places : List ℕ} {count turn : ℕ} {samples 
           delay-side flat side n (q + unsplitFromOf l - splitOf l) u (high .0) (high .1 .0)
           ∙ rw (le-ltb q (splitOf l) (high .1 .1))
 
-  module _ (left right : List Float) (few : slots ≤ 32) (left-long : length left ≡ 128 * slots) (right-long : length right ≡ 128 * slots) (room : 128 * slots ≤ length input) where
+  module _ (left right : List Float) (left-long : length left ≡ 128 * slots) (right-long : length right ≡ 128 * slots) where
     abbrev chainsLeft : List Float
     chainsLeft = chains.leftAfter l timing (rotationsOf l) samples gains rows input delays left right
 
@@ -81,10 +81,10 @@ module _ {f : Frame} {s : Core} {places : List ℕ} {count turn : ℕ} {samples 
     chainsRight = chains.rightAfter l timing (rotationsOf l) samples gains rows input delays left right
 
     left-low : chainsLeft ≡ qmfRows slots (lowAt flat leftOf left)
-    left-low = chains-left flat left right few left-long right-long room
+    left-low = chains-left flat left right left-long right-long
 
     right-low : chainsRight ≡ qmfRows slots (lowAt flat rightOf right)
-    right-low = chains-right flat left right few left-long right-long room
+    right-low = chains-right flat left right left-long right-long
 
     pub chains-left-long : length chainsLeft ≡ 128 * slots
     chains-left-long = ap (λ (t : List Float). length t) left-low ∙ rows-length slots (lowAt flat leftOf left)
@@ -92,16 +92,16 @@ module _ {f : Frame} {s : Core} {places : List ℕ} {count turn : ℕ} {samples 
     pub chains-right-long : length chainsRight ≡ 128 * slots
     chains-right-long = ap (λ (t : List Float). length t) right-low ∙ rows-length slots (lowAt flat rightOf right)
 
-    pub left-after : delayed.leftAfter l timing input gains rows long short chainsLeft chainsRight ≡ qmfRows slots (λ n q. synthesised l (leftAt f s n) q)
+    pub left-after : delayed.leftAfter l timing input gains rows plain chainsLeft chainsRight ≡ qmfRows slots (λ n q. synthesised l (leftAt f s n) q)
     unfolding leftAt
     left-after =
-        delays-left flat chainsLeft chainsRight few chains-left-long chains-right-long room
+        delays-left flat chainsLeft chainsRight chains-left-long chains-right-long
         ∙ ap (λ (old : List Float). qmfRows slots (highAt flat leftOf old)) left-low
         ∙ whole leftOf left
 
-    pub right-after : delayed.rightAfter l timing input gains rows long short chainsLeft chainsRight ≡ qmfRows slots (λ n q. synthesised l (rightAt f s n) q)
+    pub right-after : delayed.rightAfter l timing input gains rows plain chainsLeft chainsRight ≡ qmfRows slots (λ n q. synthesised l (rightAt f s n) q)
     unfolding rightAt
     right-after =
-        delays-right flat chainsLeft chainsRight few chains-left-long chains-right-long room
+        delays-right flat chainsLeft chainsRight chains-left-long chains-right-long
         ∙ ap (λ (old : List Float). qmfRows slots (highAt flat rightOf old)) right-low
         ∙ whole rightOf right

@@ -2,15 +2,17 @@
 -- the run that it leaves holds what came in. Assumes nothing.
 use mathlib.Core.Path.{_≡_, refl, sym, ap, _∙_}
 use mathlib.Core.Bool.{Bool, true, false, cond}
-use mathlib.Core.List.{List}
+use mathlib.Core.List.{List, _++_}
 use Prim.Native.Nat.{ℕ, zero, suc, _+_, _-_, _*_, _<_, _≤_}
 use native.Mathlib.Omega.{arith}
-use borrow.Author.Tests.{ltb-true, le-ltb}
-use lib.Dec.{ltb}
+use borrow.Author.Tests.{ltb-true, le-ltb, le-leb}
+use lib.Dec.{ltb, leb}
 use lib.Ieee.{Float}
+use lib.ListN.{length, drop}
 use Rattle.complex.specs.declared.Complex.{Complex}
 use Rattle.layout.specs.declared.Layout.{Layout}
-use Rattle.layout.specs.Numbers.{splitOf}
+use Rattle.layout.specs.Numbers.{splitOf, unsplitFromOf}
+use Rattle.layout.proofs.Bounds.{bounds}
 use Rattle.lists.specs.Part.{part}
 use Rattle.lists.proofs.Rows.{rows-same}
 use Rattle.planar.specs.Cells.{cell, planar}
@@ -21,6 +23,13 @@ use Rattle.planar.proofs.Window.{window-start}
 use Rattle.ps_hybrid_analysis.specs.Analysis.{slotAt, enough, historyAfter}
 use Rattle.ps_state.specs.State.{historyWith}
 use Rattle.standard.specs.Channel.{back, pastAt}
+
+-- the analysis has room
+pub analysis-room : (l : Layout) (history input samples : List Float) (slots : ℕ) → leb (128 * (slots + 6)) (length input) ≡ true → length history ≡ 60 → length samples ≡ 2048
+    → enough l history input samples slots ≡ true
+analysis-room l history input samples slots there past-long long =
+    let b = bounds l in
+    rw (there, le-leb (12 * splitOf l) (length history) (omega arith), le-leb (64 * unsplitFromOf l) (length samples) (omega arith))
 
 -- what came in, i slots ago
 past-back : (past : List Complex) (x : ℕ → Complex) (n i : ℕ) → i < n → back i (pastAt past x n) ≡ x (n - suc i)
@@ -59,14 +68,11 @@ module _ (history input : List Float) where
         rw (le-ltb (slots + j) 6 (omega arith))
         (sym (past-back (pastOf p) (λ n. qmfAt input n p) slots (6 - suc j) (omega arith) ∙ ap (λ (n : ℕ). qmfAt input n p) (omega arith)))
 
-    pub history-same : (slots : ℕ) → 6 ≤ slots → enough l history input slots ≡ true
-        → historyAfter l history input slots ≡ historyWith l (pastAfter slots) history
+    pub history-same : (samples : List Float) (slots : ℕ) → 6 ≤ slots → enough l history input samples slots ≡ true
+        → historyAfter l history input samples slots ≡ historyWith l (pastAfter slots) history
     unfolding historyAfter historyWith
-    history-same slots long room =
+    history-same samples slots long room =
         rw room
-        (rows-same
-        (λ p. cond (ltb p (splitOf l)) (planar 6 (λ j. slotAt l history input p (slots + j))) (part (12 * p) 12 history))
-        (λ p. cond (ltb p (splitOf l)) (imageOf 6 (pastAfter slots p)) (part (12 * p) 12 history)) 5
-        (λ p u.
-        ap (λ (run : List Float). cond (ltb p (splitOf l)) run (part (12 * p) 12 history))
-        (planar-same 6 (λ j. slotAt l history input p (slots + j)) (λ j. back (6 - suc j) (pastAfter slots p)) (λ j w. late-slot slots p j long w))))
+        (ap (λ (runs : List Float). runs ++ drop (12 * splitOf l) history)
+        (rows-same (λ p. planar 6 (λ j. slotAt l history input p (slots + j))) (λ p. imageOf 6 (pastAfter slots p)) (splitOf l)
+        (λ p u. planar-same 6 (λ j. slotAt l history input p (slots + j)) (λ j. back (6 - suc j) (pastAfter slots p)) (λ j w. late-slot slots p j long w))))

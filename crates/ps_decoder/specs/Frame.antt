@@ -4,10 +4,13 @@ use mathlib.Core.Bool.{cond}
 use mathlib.Core.List.{List}
 use lib.Dec.{eqb}
 use lib.Ieee.{Float}
+use lib.ListN.{length}
+use Rattle.answer.specs.declared.Answer.the-variants.{Buffers}
 use Rattle.answer.specs.Number.{numberOf}
-use Rattle.calls.specs.Call.{Call, answer, layout, after}
+use Rattle.calls.specs.Call.{Call, answer, layout, after, played}
+use Rattle.ps_state.specs.declared.PsCarried.{PsCarried}
 use Rattle.ps_state.specs.declared.PsDecoder.{PsDecoder}
-use Rattle.ps_state.specs.State.{decoderOf, playingOf, stored}
+use Rattle.ps_state.specs.State.{soundLong, decoderIn, carriedOf, soundOf, playingOf, stored}
 use Rattle.ps_state.specs.Ready.{readied}
 use Rattle.ps_decoder.specs.declared.Answered.{Answered}
 use Rattle.ps_decoder.specs.declared.Played.{Played}
@@ -19,9 +22,24 @@ callOf line input edge left right = record { line = line; input = input; edge = 
 unfoldable pub decoderAfter : PsDecoder → Call → PsDecoder
 decoderAfter s c = cond (eqb (numberOf (answer (playingOf s) c)) 0) (stored (readied (layout (playingOf s) c) (c .edge) s) (after (playingOf s) c)) s
 
--- what a call answers, and the state whose arrays it was lent
-abbrev pub playedOf : Answered → List Float → List Float → List Float → List Float → List Float → Played
-playedOf r history delays long short detectors = record { answer = r .answer; state = decoderOf (r .carried) history delays long short detectors }
-
 unfoldable pub playedBy : PsDecoder → Call → Played
 playedBy s c = record { answer = answer (playingOf s) c; state = decoderAfter s c }
+
+-- ---- a call of a state apart, whose sound is lent
+
+pub record Returned : Type 0 where
+  pub answered : Answered
+  pub sound : List Float
+  pub left : List Float
+  pub right : List Float
+
+abbrev pub returned : Answered → List Float → List Float → List Float → Returned
+returned r sound left right = record { answered = r; sound = sound; left = left; right = right }
+
+-- sound of another length is refused before all else, and everything left as it is
+unfoldable pub returnedBy : PsCarried → List Float → Call → Returned
+returnedBy s m c =
+    let d = decoderIn s m in
+    cond (eqb (length m) soundLong)
+    (returned (record { answer = answer (playingOf d) c; carried = carriedOf (decoderAfter d c) }) (soundOf (decoderAfter d c)) (played (playingOf d) c .left) (played (playingOf d) c .right))
+    (returned (record { answer = Buffers; carried = s }) m (c .left) (c .right))

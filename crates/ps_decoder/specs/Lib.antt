@@ -1,5 +1,4 @@
 pub mod Frame
-pub mod Staged
 pub mod Sound
 pub mod Run
 pub mod Isolation

@@ -1,7 +1,8 @@
--- An accepted frame by its stages, each over flat lists: analysis, ducking factors, coefficients at the borders, all-pass channels, plain delays.
+-- An accepted frame by its stages, each over flat lists: coefficients at the borders, analysis, ducking factors, all-pass channels, plain delays.
 -- Assumes nothing.
 use Prim.Native.Nat.{ℕ, min}
-use mathlib.Core.List.{List}
+use mathlib.Core.Bool.{cond}
+use mathlib.Core.List.{List, []}
 use mathlib.Core.Path.{_≡_}
 use lib.Ieee.{Float}
 use lib.IntN.{ℤ}
@@ -11,7 +12,7 @@ use Rattle.cue.specs.declared.Header.{Header}
 use Rattle.layout.specs.declared.Layout.{Layout}
 use Rattle.limits.specs.Limits as limits
 use Rattle.lists.specs.Padded.{padded}
-use Rattle.calls.specs.Call.{modesOf}
+use Rattle.phase_table.specs.Values.{phase}
 use Rattle.ps_data.specs.declared.PsLines.{PsLines}
 use Rattle.ps_data.specs.declared.PsIndices.{PsIndices}
 use Rattle.ps_data.specs.declared.Resolved.{Resolved}
@@ -26,43 +27,63 @@ use Rattle.ps_stereo_slots.specs.declared.Timing.{Timing}
 use Rattle.standard.specs.Channel.{rotationsOf}
 use Rattle.standard.specs.Numbers.{zero}
 
--- a state that is ready, what the line says, and the buffers
+-- ---- the stages after the coefficients: a state, when the frame is, the coefficients at the borders, and the buffers
+
+module _ (s : PsDecoder) (timing : Timing) (rows input left right : List Float) where
+  unfoldable pub samplesOf : List Float
+  samplesOf = analysis.samplesAfter (s .layout) (s .history) input (replicate 2048 zero) (timing .slots)
+
+  unfoldable pub gainsOf : List Float
+  gainsOf = gains.gainsAfter (s .layout) (s .decorr .detectors) samplesOf input (replicate 1088 zero) (min (timing .slots) 32)
+
+  -- a result of the all-pass channels
+  abbrev throughChains : (Layout → Timing → List ℤ → List Float → List Float → List Float → List Float → List Float → List Float → List Float → List Float) → List Float
+  throughChains result = result (s .layout) timing (rotationsOf (s .layout)) samplesOf gainsOf rows input (s .decorr .delays) left right
+
+  -- and of the plain delays, on both sides as the all-pass channels left them
+  abbrev throughDelays : (Layout → Timing → List Float → List Float → List Float → List Float → List Float → List Float → List Float) → List Float
+  throughDelays result = result (s .layout) timing input gainsOf rows (s .decorr .plain) (throughChains chains.leftAfter) (throughChains chains.rightAfter)
+
+  pub record Staged (after : PsDecoder) (new-left new-right : List Float) : Type 0 where
+    pub history-is : after .history ≡ analysis.historyAfter (s .layout) (s .history) input (replicate 2048 zero) (timing .slots)
+    pub delays-are : after .decorr .delays ≡ throughChains chains.delaysAfter
+    pub plain-is : after .decorr .plain ≡ throughDelays delays.plainAfter
+    pub detectors-are : after .decorr .detectors ≡ gains.detectorsAfter (s .layout) (s .decorr .detectors) samplesOf input (replicate 1088 zero) (min (timing .slots) 32)
+    pub matrices-are : after .stereo .matrices ≡ s .stereo .matrices
+    pub left-is : new-left ≡ throughDelays delays.leftAfter
+    pub right-is : new-right ≡ throughDelays delays.rightAfter
+
+-- ---- the frame: a state that is ready, what the line says, and the buffers
+
+-- the table of directions is there in a frame with phase alone
+abbrev pub directionsOf : Header → List ℤ
+directionsOf h = cond (h .phase) phase []
+
 module _ (s : PsDecoder) (h : Header) (indices : PsIndices) (positions : List ℕ) (input left right : List Float) where
   abbrev slots : ℕ
   slots = slotsOf (s .asked)
 
-  abbrev count : ℕ
-  count = min (h .envelopes) limits.envelopes
+  abbrev pub timingOf : Timing
+  timingOf =
+      record {
+        borders = padded limits.envelopes 0 (bordersOf slots (h .variable) (min (h .envelopes) limits.envelopes) positions);
+        count = h .envelopes;
+        slots = slots;
+        turn = s .decorr .turn;
+      }
 
-  abbrev places : List ℕ
-  places = padded limits.envelopes 0 (bordersOf slots (h .variable) count positions)
-
-  abbrev timing : Timing
-  timing = record { borders = places; count = h .envelopes; slots = slots; turn = s .decorr .turn }
-
-  unfoldable pub samplesOf : List Float
-  samplesOf = analysis.samplesAfter (s .layout) (s .history) input slots (replicate 2048 zero)
-
-  unfoldable pub gainsOf : List Float
-  gainsOf = gains.gainsAfter (s .layout) (s .decorr .detectors) samplesOf input (min slots 32) (replicate 1088 zero)
+  -- a result of the coefficients
+  abbrev throughBorders : {A : Type 0} → (Layout → Header → PsIndices → List ℤ → List Float → List ℤ → List Float → A) → A
+  throughBorders result = result (s .layout) h indices (directionsOf h) (s .stereo .matrices) (s .stereo .phases) (replicate limits.matrices zero)
 
   unfoldable pub rowsOf : List Float
-  rowsOf = borders.rowsAfter (s .layout) (modesOf h) (h .config) indices (s .stereo) count (replicate limits.matrices zero)
-
-  -- a result of the all-pass channels
-  abbrev throughChains : (Layout → Timing → List ℤ → List Float → List Float → List Float → List Float → List Float → List Float → List Float → List Float) → List Float
-  throughChains result = result (s .layout) timing (rotationsOf (s .layout)) samplesOf gainsOf rowsOf input (s .decorr .delays) left right
-
-  -- and of the plain delays, on both sides as the all-pass channels left them
-  abbrev throughDelays : (Layout → Timing → List Float → List Float → List Float → List Float → List Float → List Float → List Float → List Float) → List Float
-  throughDelays result =
-      result (s .layout) timing input gainsOf rowsOf (s .decorr .long) (s .decorr .short) (throughChains chains.leftAfter) (throughChains chains.rightAfter)
+  rowsOf = throughBorders borders.rowsAfter
 
   unfoldable pub leftOf : List Float
-  leftOf = throughDelays delays.leftAfter
+  leftOf = throughDelays s timingOf rowsOf input left right delays.leftAfter
 
   unfoldable pub rightOf : List Float
-  rightOf = throughDelays delays.rightAfter
+  rightOf = throughDelays s timingOf rowsOf input left right delays.rightAfter
 
   unfoldable pub sounded : PsLines → PsDecoder
   sounded lines =
@@ -71,16 +92,15 @@ module _ (s : PsDecoder) (h : Header) (indices : PsIndices) (positions : List �
         layout = s .layout;
         cued = h .cued;
         lines = lines;
-        history = analysis.historyAfter (s .layout) (s .history) input slots;
+        history = analysis.historyAfter (s .layout) (s .history) input (replicate 2048 zero) slots;
         decorr =
             record {
               turn = turnAfter s slots;
-              delays = throughChains chains.delaysAfter;
-              long = throughDelays delays.longAfter;
-              short = throughDelays delays.shortAfter;
-              detectors = gains.detectorsAfter (s .layout) (s .decorr .detectors) samplesOf input (min slots 32);
+              delays = throughChains s timingOf rowsOf input left right chains.delaysAfter;
+              plain = throughDelays s timingOf rowsOf input left right delays.plainAfter;
+              detectors = gains.detectorsAfter (s .layout) (s .decorr .detectors) (samplesOf s timingOf rowsOf input left right) input (replicate 1088 zero) (min slots 32);
             };
-        stereo = borders.stereoAfter (s .layout) (modesOf h) (h .config) indices (s .stereo) count;
+        stereo = record { matrices = throughBorders borders.matricesAfter; phases = throughBorders borders.phasesAfter };
       }
 
 -- an accepted frame from a state that is ready: the state after it, and both sides

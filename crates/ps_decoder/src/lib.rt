@@ -14,9 +14,8 @@ ghost use Rattle.borders.specs.Borders.{slotsOf};
 ghost use Rattle.calls.specs.Call.{played};
 ghost use Rattle.ps_data.specs.Indices.{layoutIn};
 ghost use Rattle.ps_state.specs.Ready.{readied};
-ghost use Rattle.ps_state.specs.Shape.{Lent};
-ghost use Rattle.ps_state.specs.State.{decoderOf, playingOf};
-ghost use Rattle.ps_decoder.specs.Frame.{callOf, playedOf, playedBy};
+ghost use Rattle.ps_state.specs.State.{decoderIn, playingOf, soundLong};
+ghost use Rattle.ps_decoder.specs.Frame.{callOf, playedBy, returned, returnedBy};
 ghost use Rattle.ps_decoder.specs.Sound.{Sounded};
 
 // What a call answers, and the state after it.
@@ -25,7 +24,7 @@ pub struct Played {
     pub state: PsDecoder,
 }
 
-// The same of a state whose arrays are lent.
+// The same of a state whose sound is lent.
 pub struct Answered {
     pub answer: Answer,
     pub carried: PsCarried,
@@ -34,11 +33,7 @@ pub struct Answered {
 // An accepted frame, whose input is long enough.
 fn play(
     carried: PsCarried,
-    history: &mut [f64; 60],
-    delays: &mut [f64; 1456],
-    long: &mut [f64; 336],
-    short: &mut [f64; 58],
-    detectors: &mut [f64; 102],
+    sound: &mut [f64],
     header: Header,
     resolved: Resolved,
     input: &[f64],
@@ -46,109 +41,59 @@ fn play(
     left: &mut [f64],
     right: &mut [f64],
 ) -> PsCarried
-    requires { ⌜ 128 * (slotsOf (carried .asked) + 6) ≤ length (now input) ⌝ }
-    ensures { λ r. ⌜ Sounded (readied (layoutIn (carried .layout) header) edge
-        (decoderOf carried (now (history .entry)) (now (delays .entry)) (now (long .entry)) (now (short .entry)) (now (detectors .entry))))
+    requires { ⌜ (length (now sound) ≡ soundLong) × (128 * (slotsOf (carried .asked) + 6) ≤ length (now input)) ⌝ }
+    ensures { λ r. ⌜ Sounded (readied (layoutIn (carried .layout) header) edge (decoderIn carried (now (sound .entry))))
         header resolved (now (input .entry)) (now (left .entry)) (now (right .entry))
-        (decoderOf r (now (history .exit)) (now (delays .exit)) (now (long .exit)) (now (short .exit)) (now (detectors .exit)))
-        (now (left .exit)) (now (right .exit)) ⌝ }
+        (decoderIn r (now (sound .exit))) (now (left .exit)) (now (right .exit)) ⌝ }
+    ensures long { λ _. ⌜ length (now (sound .exit)) ≡ soundLong ⌝ }
 {
     let old = carried.layout;
     let layout = ps_data::layout_in(old, header);
-    let ready = ps_state::ready(
-        carried,
-        layout,
-        edge,
-        history,
-        delays,
-        long,
-        short,
-        detectors,
-    );
-    sound::sound(
-        ready,
-        history,
-        delays,
-        long,
-        short,
-        detectors,
-        header,
-        resolved,
-        input,
-        left,
-        right,
-    )
+    let ready = ps_state::ready(carried, layout, edge, sound);
+    sound::sound(ready, sound, header, resolved, input, left, right)
 }
 
-// An array that is lent as a slice tells its length, which no proof knows otherwise.
-fn sized(history: &[f64], delays: &[f64], long: &[f64], short: &[f64], detectors: &[f64])
-    requires { ⌜ Lent (now history) (now delays) (now long) (now short) (now detectors) ⌝ }
-    ensures { λ _. ⌜ Lent (now (history .entry)) (now (delays .entry)) (now (long .entry)) (now (short .entry)) (now (detectors .entry)) ⌝ }
-{}
+fn refused(answer: Answer, carried: PsCarried) -> Answered
+    ensures { λ r. ⌜ (r .answer ≡ answer) × (r .carried ≡ carried) ⌝ }
+{
+    Answered {
+        answer: answer,
+        carried: carried,
+    }
+}
 
-// A frame: a cue line, the input's QMF rows, the spectrum edge, and the two outputs. A call that is not answered with Done changes nothing. The state's
-// small part goes by value, its arrays are lent, so that nothing large is copied.
+// A frame: a cue line, the input's QMF rows, the spectrum edge, and the two outputs. A call that is not answered with Done changes nothing. What is small in
+// the state goes by value, its sound is lent, so that nothing large is copied; sound of another length is refused as a buffer is.
 pub fn lent_frame(
     carried: PsCarried,
-    history: &mut [f64; 60],
-    delays: &mut [f64; 1456],
-    long: &mut [f64; 336],
-    short: &mut [f64; 58],
-    detectors: &mut [f64; 102],
+    sound: &mut [f64],
     line: &[u8],
     input: &[f64],
     edge: usize,
     left: &mut [f64],
     right: &mut [f64],
 ) -> Answered
-    ensures carried { λ r. ⌜ playedOf r (now (history .exit)) (now (delays .exit)) (now (long .exit)) (now (short .exit)) (now (detectors .exit))
-        ≡ playedBy (decoderOf carried (now (history .entry)) (now (delays .entry)) (now (long .entry)) (now (short .entry)) (now (detectors .entry)))
-        (callOf (now (line .entry)) (now (input .entry)) edge (now (left .entry)) (now (right .entry))) ⌝ }
-    ensures left { λ _. ⌜ now (left .exit)
-        ≡ played (playingOf (decoderOf carried (now (history .entry)) (now (delays .entry)) (now (long .entry)) (now (short .entry)) (now (detectors .entry))))
-        (callOf (now (line .entry)) (now (input .entry)) edge (now (left .entry)) (now (right .entry))) .left ⌝ }
-    ensures right { λ _. ⌜ now (right .exit)
-        ≡ played (playingOf (decoderOf carried (now (history .entry)) (now (delays .entry)) (now (long .entry)) (now (short .entry)) (now (detectors .entry))))
-        (callOf (now (line .entry)) (now (input .entry)) edge (now (left .entry)) (now (right .entry))) .right ⌝ }
+    ensures { λ r. ⌜ returned r (now (sound .exit)) (now (left .exit)) (now (right .exit))
+        ≡ returnedBy carried (now (sound .entry)) (callOf (now (line .entry)) (now (input .entry)) edge (now (left .entry)) (now (right .entry))) ⌝ }
 {
-    sized(history, delays, long, short, detectors);
+    if sound.len() != ps_state::SOUND {
+        return refused(Answer::Buffers, carried);
+    }
     let lines = carried.lines;
     let resolved = ps_data::resolve(lines, line);
     let read = resolved.line;
     let Line::Read(header) = read else {
-        return Answered {
-            answer: read.answer(),
-            carried: carried,
-        };
+        return refused(read.answer(), carried);
     };
     let of_line = ps_data::read_answer(header, lines.configured);
     let Answer::Done = of_line else {
-        return Answered {
-            answer: of_line,
-            carried: carried,
-        };
+        return refused(of_line, carried);
     };
     let of_input = ps_input::input_answer(carried.asked, input, left.len(), right.len());
     let Answer::Done = of_input else {
-        return Answered {
-            answer: of_input,
-            carried: carried,
-        };
+        return refused(of_input, carried);
     };
-    let next = play(
-        carried,
-        history,
-        delays,
-        long,
-        short,
-        detectors,
-        header,
-        resolved,
-        input,
-        edge,
-        left,
-        right,
-    );
+    let next = play(carried, sound, header, resolved, input, edge, left, right);
     Answered {
         answer: Answer::Done,
         carried: next,
@@ -169,29 +114,12 @@ pub fn frame(
     ensures right { λ _. ⌜ now (right .exit) ≡ played (playingOf state) (callOf (now (line .entry)) (now (input .entry)) edge (now (left .entry)) (now (right .entry))) .right ⌝ }
 {
     let carried = ps_state::apart(state);
-    let mut history = state.history;
-    let decorr = state.decorr;
-    let mut delays = decorr.delays;
-    let mut long = decorr.long;
-    let mut short = decorr.short;
-    let mut detectors = decorr.detectors;
-    let answered = lent_frame(
-        carried,
-        &mut history,
-        &mut delays,
-        &mut long,
-        &mut short,
-        &mut detectors,
-        line,
-        input,
-        edge,
-        left,
-        right,
-    );
+    let mut sound = ps_state::sound(state);
+    let answered = lent_frame(carried, &mut sound, line, input, edge, left, right);
     let answer = answered.answer;
     let after = answered.carried;
     Played {
         answer: answer,
-        state: ps_state::together(after, history, delays, long, short, detectors),
+        state: ps_state::together(after, &sound),
     }
 }

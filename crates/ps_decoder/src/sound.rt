@@ -2,6 +2,7 @@
 use answer::Answer;
 use cue::Header;
 use layout::Layout;
+use ps_data::PsIndices;
 use ps_data::Resolved;
 use ps_state::PsCarried;
 use ps_stereo_slots::Timing;
@@ -10,20 +11,50 @@ ghost use Prim.Native.Nat.{_+_, _*_, _≤_};
 ghost use lib.ListN.{length};
 ghost use Rattle.borders.specs.Borders.{slotsOf};
 ghost use Rattle.ps_allpass_channels.specs.Channels as chains;
-ghost use Rattle.ps_state.specs.State.{decoderOf};
+ghost use Rattle.ps_state.specs.State.{decoderIn, soundLong};
+ghost use Rattle.ps_stereo_borders.specs.Borders as borders;
 ghost use Rattle.standard.specs.Channel.{rotationsOf};
-ghost use Rattle.ps_decoder.specs.Sound.{leftOf, rightOf, sounded};
-ghost use Rattle.ps_decoder.specs.Staged.{Staged};
+ghost use Rattle.ps_decoder.specs.Sound.{directionsOf, Staged, Sounded};
+
+// The coefficients at the borders. The table of directions is there in a frame with phase alone.
+fn mixed(
+    layout: Layout,
+    header: Header,
+    indices: PsIndices,
+    matrices: &mut [f64],
+    phases: &mut [i8],
+    rows: &mut [f64],
+)
+    ensures matrices { λ _. ⌜ now (matrices .exit) ≡ borders.matricesAfter layout header indices (directionsOf header) (now (matrices .entry)) (now (phases .entry)) (now (rows .entry)) ⌝ }
+    ensures phases { λ _. ⌜ now (phases .exit) ≡ borders.phasesAfter layout header indices (directionsOf header) (now (matrices .entry)) (now (phases .entry)) (now (rows .entry)) ⌝ }
+    ensures rows { λ _. ⌜ now (rows .exit) ≡ borders.rowsAfter layout header indices (directionsOf header) (now (matrices .entry)) (now (phases .entry)) (now (rows .entry)) ⌝ }
+{
+    if header.phase {
+        let directions = phase_table::table();
+        ps_stereo_borders::coefficients(
+            layout,
+            header,
+            indices,
+            &directions,
+            matrices,
+            phases,
+            rows,
+        );
+    } else {
+        let none = [0i64; 0];
+        ps_stereo_borders::coefficients(layout, header, indices, &none, matrices, phases, rows);
+    }
+}
 
 // The all-pass channels, with the layout's table of rotations.
 fn chains(
     layout: Layout,
     timing: Timing,
-    samples: &[f64; 2048],
-    gains: &[f64; 1088],
-    rows: &[f64; limits::MATRICES],
+    samples: &[f64],
+    gains: &[f64],
+    rows: &[f64],
     input: &[f64],
-    delays: &mut [f64; 1456],
+    delays: &mut [f64],
     left: &mut [f64],
     right: &mut [f64],
 )
@@ -68,30 +99,40 @@ fn chains(
 // The stages after the coefficients: the samples and the ducking factors, then both kinds of channels into left and right. They stand apart from `sound`,
 // so that no stack holds both these arrays and the tables of the coefficients.
 fn stages(
-    layout: Layout,
+    carried: PsCarried,
     timing: Timing,
-    rows: &[f64; limits::MATRICES],
+    rows: &[f64],
     input: &[f64],
-    history: &mut [f64; 60],
-    delays: &mut [f64; 1456],
-    long: &mut [f64; 336],
-    short: &mut [f64; 58],
-    detectors: &mut [f64; 102],
+    sound: &mut [f64],
     left: &mut [f64],
     right: &mut [f64],
 )
-    requires { ⌜ (slotsOf (timing .slots) ≡ timing .slots) × (128 * (timing .slots + 6) ≤ length (now input)) ⌝ }
-    ensures { λ _. ⌜ Staged layout timing (now (rows .entry)) (now (input .entry))
-        (now (history .entry)) (now (delays .entry)) (now (long .entry)) (now (short .entry)) (now (detectors .entry)) (now (left .entry)) (now (right .entry))
-        (now (history .exit)) (now (delays .exit)) (now (long .exit)) (now (short .exit)) (now (detectors .exit)) (now (left .exit)) (now (right .exit)) ⌝ }
+    requires { ⌜ (slotsOf (timing .slots) ≡ timing .slots) × (128 * (timing .slots + 6) ≤ length (now input)) × (length (now sound) ≡ soundLong) ⌝ }
+    ensures { λ _. ⌜ Staged (decoderIn carried (now (sound .entry))) timing (now (rows .entry)) (now (input .entry)) (now (left .entry)) (now (right .entry))
+        (decoderIn carried (now (sound .exit))) (now (left .exit)) (now (right .exit)) ⌝ }
+    ensures long { λ _. ⌜ length (now (sound .exit)) ≡ soundLong ⌝ }
 {
+    let layout = carried.layout;
     let mut samples = [0.0; 2048];
-    let analysed = ps_hybrid_analysis::analyse(layout, timing.slots, history, input, &mut samples);
+    let analysed = ps_hybrid_analysis::analyse(
+        layout,
+        timing.slots,
+        &mut sound[0..ps_state::DELAYS],
+        input,
+        &mut samples,
+    );
     let Answer::Done = analysed else {
         return;
     };
     let mut gains = [0.0; 1088];
-    ps_decorr_transient::duck(layout, detectors, &samples, input, timing.slots, &mut gains);
+    ps_decorr_transient::duck(
+        layout,
+        &mut sound[ps_state::DETECTORS..ps_state::MATRICES],
+        &samples,
+        input,
+        timing.slots,
+        &mut gains,
+    );
     chains(
         layout,
         timing,
@@ -99,7 +140,7 @@ fn stages(
         &gains,
         rows,
         input,
-        delays,
+        &mut sound[ps_state::DELAYS..ps_state::PLAIN],
         left,
         right,
     );
@@ -109,43 +150,39 @@ fn stages(
         input,
         &gains,
         rows,
-        long,
-        short,
+        &mut sound[ps_state::PLAIN..ps_state::DETECTORS],
         left,
         right,
     );
 }
 
-// From a state that is ready, whose arrays are lent, and an input that is long enough.
+// From a state that is ready, whose sound is lent, and an input that is long enough.
 pub fn sound(
     carried: PsCarried,
-    history: &mut [f64; 60],
-    delays: &mut [f64; 1456],
-    long: &mut [f64; 336],
-    short: &mut [f64; 58],
-    detectors: &mut [f64; 102],
+    sound: &mut [f64],
     header: Header,
     resolved: Resolved,
     input: &[f64],
     left: &mut [f64],
     right: &mut [f64],
 ) -> PsCarried
-    requires { ⌜ 128 * (slotsOf (carried .asked) + 6) ≤ length (now input) ⌝ }
-    ensures carried { λ r. ⌜ decoderOf r (now (history .exit)) (now (delays .exit)) (now (long .exit)) (now (short .exit)) (now (detectors .exit))
-        ≡ sounded (decoderOf carried (now (history .entry)) (now (delays .entry)) (now (long .entry)) (now (short .entry)) (now (detectors .entry)))
-        header (resolved .indices) (resolved .positions) (now (input .entry)) (now (left .entry)) (now (right .entry)) (resolved .lines) ⌝ }
-    ensures left { λ _. ⌜ now (left .exit)
-        ≡ leftOf (decoderOf carried (now (history .entry)) (now (delays .entry)) (now (long .entry)) (now (short .entry)) (now (detectors .entry)))
-        header (resolved .indices) (resolved .positions) (now (input .entry)) (now (left .entry)) (now (right .entry)) ⌝ }
-    ensures right { λ _. ⌜ now (right .exit)
-        ≡ rightOf (decoderOf carried (now (history .entry)) (now (delays .entry)) (now (long .entry)) (now (short .entry)) (now (detectors .entry)))
-        header (resolved .indices) (resolved .positions) (now (input .entry)) (now (left .entry)) (now (right .entry)) ⌝ }
+    requires { ⌜ (length (now sound) ≡ soundLong) × (128 * (slotsOf (carried .asked) + 6) ≤ length (now input)) ⌝ }
+    ensures { λ r. ⌜ Sounded (decoderIn carried (now (sound .entry))) header resolved (now (input .entry)) (now (left .entry)) (now (right .entry))
+        (decoderIn r (now (sound .exit))) (now (left .exit)) (now (right .exit)) ⌝ }
+    ensures long { λ _. ⌜ length (now (sound .exit)) ≡ soundLong ⌝ }
 {
     let layout = carried.layout;
-    let stereo = carried.stereo;
     let indices = resolved.indices;
+    let mut phases = carried.phases;
     let mut rows = [0.0; limits::MATRICES];
-    let mixed = ps_stereo_borders::coefficients(layout, header, indices, stereo, &mut rows);
+    mixed(
+        layout,
+        header,
+        indices,
+        &mut sound[ps_state::MATRICES..ps_state::SOUND],
+        &mut phases,
+        &mut rows,
+    );
     let slots = borders::slots(carried.asked);
     let envelopes = header.envelopes as usize;
     let positions = resolved.positions;
@@ -156,26 +193,14 @@ pub fn sound(
         slots: slots,
         turn: carried.turn,
     };
-    stages(
-        layout,
-        timing,
-        &rows,
-        input,
-        history,
-        delays,
-        long,
-        short,
-        detectors,
-        left,
-        right,
-    );
+    stages(carried, timing, &rows, input, sound, left, right);
     let lines = resolved.lines;
     PsCarried {
         asked: carried.asked,
         layout: layout,
         cued: header.cued,
         lines: lines,
-        stereo: mixed,
+        phases: phases,
         turn: (carried.turn % 420 + slots) % 420,
     }
 }

@@ -1,48 +1,31 @@
 -- The carried state of de-correlation, fresh and after a reset (Annex 8.A.3). Assumes nothing.
-use Prim.Native.Nat.{ℕ, _+_, _/_, _%_}
-use mathlib.Core.Bool.{cond}
+use Prim.Native.Nat.{ℕ, _+_, _-_, _*_, _/_, _%_}
+use mathlib.Core.Bool.{cond, _&&_}
 use mathlib.Core.List.{List}
-use lib.Dec.{leb, ltb}
-use lib.Ieee.{Float, nan}
-use lib.ListN.{length, getD, replicate}
+use lib.Dec.{eqb, leb, ltb}
+use lib.Ieee.{Float}
+use lib.ListN.{length, replicate}
 use Rattle.layout.specs.declared.Layout.{Layout}
-use Rattle.layout.specs.Numbers.{allPassOf, shortDelayOf}
-use Rattle.lists.specs.Rows.{tabulate}
+use Rattle.layout.specs.Numbers.{allPassOf, shortDelayOf, groupsOf}
 use Rattle.ps_decorr_allpass.specs.Memory.{ownerOf, silencedFrom}
 use Rattle.standard.specs.Numbers.{zero}
 use Rattle.ps_decorr.specs.declared.PsDecorr.{PsDecorr}
 
--- the state whose counter and arrays are these
-abbrev pub decorrOf : ℕ → List Float → List Float → List Float → List Float → PsDecorr
-decorrOf turn delays long short detectors = record { turn = turn; delays = delays; long = long; short = short; detectors = detectors }
-
 -- every delay starts silent, and every detector calm
 abbrev pub freshDecorr : PsDecorr
-freshDecorr = record { turn = 0; delays = replicate 1456 zero; long = replicate 336 zero; short = replicate 58 zero; detectors = replicate 102 zero }
+freshDecorr = record { turn = 0; delays = replicate 1456 zero; plain = replicate 394 zero; detectors = replicate 102 zero }
 
--- the channel that number m of the long delays belongs to, 14 rows of 12 QMF bands, and of the short ones, one row
-abbrev pub longOwner : Layout → ℕ → ℕ
-longOwner l m = allPassOf l + m % 24 / 2
+-- the channel that number m of the plain delays belongs to: 14 rows of 12 QMF bands, then one row of the bands above them
+abbrev pub plainOwner : Layout → ℕ → ℕ
+plainOwner l m = cond (ltb m 336) (allPassOf l + m % 24 / 2) (shortDelayOf l + (m - 336) / 2)
 
-abbrev pub shortOwner : Layout → ℕ → ℕ
-shortOwner l m = shortDelayOf l + m / 2
-
--- the delays of the channels from k on cleared, never the detectors; the counter goes on. Where k is no all-pass channel, those have nothing to clear
+-- the delays of the channels from k on cleared, never the detectors; the counter goes on. Where k is no all-pass channel, those have nothing to clear;
+-- nothing changes where a list has not the room
 abbrev pub delaysReset : Layout → ℕ → List Float → List Float
-delaysReset l k delays = cond (ltb k (allPassOf l)) (silencedFrom ownerOf k delays) delays
+delaysReset l k delays = cond (leb (112 * groupsOf l) (length delays) && ltb k (allPassOf l)) (silencedFrom ownerOf k delays) delays
 
-abbrev pub longReset : Layout → ℕ → List Float → List Float
-longReset l k = silencedFrom (longOwner l) k
-
-abbrev pub shortReset : Layout → ℕ → List Float → List Float
-shortReset l k = silencedFrom (shortOwner l) k
+abbrev pub plainReset : Layout → ℕ → List Float → List Float
+plainReset l k plain = cond (eqb (length plain) 394) (silencedFrom (plainOwner l) k plain) plain
 
 unfoldable pub resetFrom : Layout → ℕ → PsDecorr → PsDecorr
-resetFrom l k s =
-    record {
-      turn = s .turn;
-      delays = delaysReset l k (s .delays);
-      long = longReset l k (s .long);
-      short = shortReset l k (s .short);
-      detectors = s .detectors;
-    }
+resetFrom l k s = record { turn = s .turn; delays = delaysReset l k (s .delays); plain = plainReset l k (s .plain); detectors = s .detectors }

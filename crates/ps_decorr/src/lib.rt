@@ -2,19 +2,17 @@
 use layout::Kind;
 use layout::Layout;
 ghost use mathlib.Core.Path.{_≡_};
-ghost use Prim.Native.Nat.{_*_, _%_, _<_, _≤_};
+ghost use Prim.Native.Nat.{_+_, _*_, _/_, _%_, _≤_};
 ghost use lib.ListN.{length};
-ghost use Rattle.ps_decorr_allpass.specs.Memory.{ownerOf};
-ghost use Rattle.ps_decorr_allpass.specs.Memory.{silencedFrom};
-ghost use Rattle.ps_decorr.specs.State.{freshDecorr, delaysReset, longReset, shortReset};
+ghost use Rattle.ps_decorr_allpass.specs.Memory.{ownerOf, silencedFrom};
+ghost use Rattle.ps_decorr.specs.State.{freshDecorr, plainOwner, delaysReset, plainReset};
 
-// How many slots have come, modulo 420, of which the length of every ring is a divisor; the rings of the all-pass channels, the ring of the delays of 14
-// slots, the delays of one slot, and the transient detectors.
+// How many slots have come, modulo 420, of which the length of every ring is a divisor; the rings of the all-pass channels; the plain delays, a ring of 14
+// rows of 24 numbers, then one of a row of 58; and the transient detectors.
 pub struct PsDecorr {
     pub turn: usize,
     pub delays: [f64; 1456],
-    pub long: [f64; 336],
-    pub short: [f64; 58],
+    pub plain: [f64; 394],
     pub detectors: [f64; 102],
 }
 
@@ -25,8 +23,7 @@ pub fn fresh() -> PsDecorr
     PsDecorr {
         turn: 0,
         delays: [0.0; 1456],
-        long: [0.0; 336],
-        short: [0.0; 58],
+        plain: [0.0; 394],
         detectors: [0.0; 102],
     }
 }
@@ -47,43 +44,57 @@ fn clear_columns(xs: &mut [f64], rows: usize, width: usize, column: usize)
 
 // The all-pass channels from k on: the lanes of its own group, then the groups behind it.
 fn clear_chains(delays: &mut [f64], k: usize)
-    requires { ⌜ (length (now delays) ≡ 1456) × (k < 52) ⌝ }
+    requires { ⌜ 112 * (k / 4) + 112 ≤ length (now delays) ⌝ }
     ensures { λ _. ⌜ now (delays .exit) ≡ silencedFrom ownerOf k (now (delays .entry)) ⌝ }
 {
     let at = 112 * (k / 4);
+    let all = delays.len();
     clear_columns(&mut delays[at..at + 112], 28, 4, k % 4);
-    clear_columns(delays, 1, 1456, at + 112);
+    clear_columns(delays, 1, all, at + 112);
 }
 
-// A frame's own reset: the delays of the channels from k on.
-pub fn reset_from(
-    layout: Layout,
-    k: usize,
-    delays: &mut [f64; 1456],
-    long: &mut [f64; 336],
-    short: &mut [f64; 58],
-)
-    ensures delays { λ _. ⌜ now (delays .exit) ≡ delaysReset layout k (now (delays .entry)) ⌝ }
-    ensures long { λ _. ⌜ now (long .exit) ≡ longReset layout k (now (long .entry)) ⌝ }
-    ensures short { λ _. ⌜ now (short .exit) ≡ shortReset layout k (now (short .entry)) ⌝ }
+// A frame's own reset: the all-pass channels from k on. Nothing changes where k is none, or the delays have no room for the layout's groups.
+pub fn reset_chains(layout: Layout, k: usize, delays: &mut [f64])
+    ensures { λ _. ⌜ now (delays .exit) ≡ delaysReset layout k (now (delays .entry)) ⌝ }
+{
+    if delays.len() < 112 * layout.groups() {
+        return;
+    }
+    match layout.kind(k) {
+        Kind::AllPass => clear_chains(delays, k),
+        Kind::Long => {}
+        Kind::Short => {}
+    }
+}
+
+// And the plain delays from channel k on: columns of the ring of 14 rows, and those of the one row behind it.
+fn clear_plain(layout: Layout, k: usize, plain: &mut [f64])
+    requires { ⌜ length (now plain) ≡ 394 ⌝ }
+    ensures { λ _. ⌜ now (plain .exit) ≡ silencedFrom (plainOwner layout) k (now (plain .entry)) ⌝ }
 {
     match layout.kind(k) {
-        Kind::AllPass => {
-            clear_chains(delays, k);
-            clear_columns(long, 1, 336, 0);
-            clear_columns(short, 1, 58, 0);
-        }
+        Kind::AllPass => clear_columns(plain, 1, 394, 0),
         Kind::Long => {
-            clear_columns(long, 14, 24, 2 * (k - layout.all_pass()));
-            clear_columns(short, 1, 58, 0);
+            clear_columns(&mut plain[0..336], 14, 24, 2 * (k - layout.all_pass()));
+            clear_columns(&mut plain[336..394], 1, 58, 0);
         }
         Kind::Short => {
             clear_columns(
-                short,
+                &mut plain[336..394],
                 1,
                 58,
                 2 * limits::least(k - layout.short_delay(), 29),
             );
         }
     }
+}
+
+// Nothing changes where the plain delays are not 394 numbers.
+pub fn reset_plain(layout: Layout, k: usize, plain: &mut [f64])
+    ensures { λ _. ⌜ now (plain .exit) ≡ plainReset layout k (now (plain .entry)) ⌝ }
+{
+    if plain.len() != 394 {
+        return;
+    }
+    clear_plain(layout, k, plain);
 }

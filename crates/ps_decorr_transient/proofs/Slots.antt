@@ -2,7 +2,7 @@
 use mathlib.Core.Path.{_≡_, refl, _∙_}
 use mathlib.Core.Bool.{cond}
 use mathlib.Core.List.{List}
-use Prim.Native.Nat.{ℕ, _+_, _*_, _<_}
+use Prim.Native.Nat.{ℕ, suc, _+_, _*_, _<_}
 use native.Mathlib.Numerals.{add-one}
 use lib.Ieee.{Float, nan, binary64, lt, add, sub, mul}
 use lib.ListN.{getD}
@@ -32,6 +32,10 @@ module _ (factors : DetectorFactors) (is : factors ≡ detectorFactors) where
   pub ducked : (d : Detector) (gain : Float) → gain ≡ cond (lt (d .smooth) (mul binary64 (factors .impact) (d .difference))) (d .smooth ⊘ mul binary64 (factors .impact) (d .difference)) one → gain ≡ ducking d
   unfolding ducking _⊗_
   ducked d gain e = rw (e, is)
+
+-- the factor of slot n
+abbrev pub factorOf : List Float → List Float → ℕ → ℕ → Float
+factorOf memory gains b n = ducking (stateOf memory gains (suc n) b)
 
 -- before the first slot, and one slot more
 pub state-none : (memory gains : List Float) (b : ℕ) → stateOf memory gains 0 b ≡ detectorOf memory b

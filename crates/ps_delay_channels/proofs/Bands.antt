@@ -20,7 +20,8 @@ use Rattle.planar.specs.Frame.{qmfAt, matrixAt}
 use Rattle.planar.proofs.Cells.{by-parts}
 use Rattle.standard.specs.declared.Matrix.{Matrix}
 use Rattle.ps_delay_channels.specs.declared.rows.Delay.{Delay}
-use Rattle.ps_delay_channels.specs.Rows.{Before, Frame, Weighed, Banded, earlier, mixedAt}
+use Rattle.ps_delay_channels.specs.Spans.{Before, Banded, earlier, mixedAt}
+use Rattle.ps_delay_channels.proofs.Slots.{Weighed}
 
 -- ---- a part that is lent is as long as its end says
 pub width : (a w : ℕ) → a + w - a ≡ w
@@ -120,12 +121,12 @@ module _ (d : Delay) (before input : List Float) (n q place : ℕ) where
 -- the rows have room for slot n's run
 pub row-room : {d : Delay} {from count : ℕ} {before : List Float} (n : ℕ) → Before d from count before → n < d .slots
     → 24 * ((d .position + n) % 14) + 2 * (from - d .first) + 2 * count ≤ length before
-row-room n b u = omega (arith, b .behind, b .within, b .memory .room n u)
+row-room n b u = omega (arith, b .behind, b .within, b .room n u)
 
 -- ---- a slot's run that was lent and is weighed
 module _ (side : Bool → Matrix → Complex → Complex → Complex) (runs gains input before : List Float) (d : Delay) (from count slots : ℕ) where
   abbrev pub mixing : ℕ → ℕ → Complex
-  mixing = mixedAt side runs gains input (earlier d before input)
+  mixing = mixedAt d before input side (matrixAt runs) (λ n. getD gains n nan)
 
   -- a band of the run, whichever list its delayed sample is lent from
   mixed-lent : (n v then : ℕ) (source ys : List Float) → v ≡ 2 * count
@@ -135,25 +136,28 @@ module _ (side : Bool → Matrix → Complex → Complex → Complex) (runs gain
   unfolding mixedAt
   mixed-lent n v then source ys e weighed q a b is =
       let here : 128 * n + 2 * from + 2 * (q - from) ≡ 128 * n + 2 * q = omega arith in
-      weighed .each (q - from) (omega arith)
+      weighed (q - from) (omega arith)
       ∙ ap₂ (λ (x z : Complex). side false (matrixAt runs n) x (scaled z (getD gains n nan)))
       (lent-pair (128 * n + 2 * from) (2 * count) input (2 * (q - from)) (omega arith) ∙ ap (cell 1 input) here)
       (rw e (lent-pair then (2 * count) source (2 * (q - from)) (omega arith)) ∙ is)
 
-  module _ {n : ℕ} {left right old mid : List Float} (r : Banding from count slots mixing old mid n) (frame : Frame from count slots input left right)
+  module _ {n : ℕ} {old mid : List Float} (r : Banding from count slots mixing old mid n) (rows : Before d from count before)
       (whole : length old ≡ 128 * slots) (more : n < slots) (w v : ℕ) (e : w ≡ 2 * count) (f : v ≡ 2 * count) (ys : List Float)
       (row-long : length ys ≡ length (part (128 * n + 2 * from) w mid)) where
+    narrow : from + count ≤ 64
+    narrow = omega (arith, rows .within, rows .bands)
+
     as-wide : length ys ≡ 2 * count
-    as-wide = row-long ∙ lent-long (128 * n + 2 * from) (2 * count) w mid e (omega (arith, r .long, frame .bands))
+    as-wide = row-long ∙ lent-long (128 * n + 2 * from) (2 * count) w mid e (omega (arith, r .long, narrow))
 
     -- a slot whose delayed run stands in the rows of the memory
-    pub banding-kept : n < d .slots → Before d from count before
+    pub banding-kept : n < d .slots
         → Weighed side runs n (getD gains n nan) count (part (128 * n + 2 * from) w input) (part (24 * ((d .position + n) % 14) + 2 * (from - d .first)) v before) ys
         → Banding from count slots mixing old (put (128 * n + 2 * from) w mid ys) (n + 1)
-    banding-kept early rows weighed =
+    banding-kept early weighed =
         let then = 24 * ((d .position + n) % 14) + 2 * (from - d .first) in
         rw e
-        (banding-more r (frame .bands) more whole ys as-wide
+        (banding-more r narrow more whole ys as-wide
         (λ q a b. mixed-lent n v then before ys f (rw e at weighed) q a b
         (earlier-kept d before input n q (then + 2 * (q - from)) early (omega (arith, rows .behind)))))
 
@@ -163,6 +167,6 @@ module _ (side : Bool → Matrix → Complex → Complex → Complex) (runs gain
         → Banding from count slots mixing old (put (128 * n + 2 * from) w mid ys) (n + 1)
     banding-came late weighed =
         rw e
-        (banding-more r (frame .bands) more whole ys as-wide
+        (banding-more r narrow more whole ys as-wide
         (λ q a b. mixed-lent n v (128 * (n - d .slots) + 2 * from) input ys f (rw e at weighed) q a b
         (earlier-came d before input n q (128 * (n - d .slots) + 2 * from + 2 * (q - from)) late (omega arith))))

@@ -19,8 +19,16 @@ use Rattle.lists.proofs.Parts.{part-length}
 use Rattle.lists.proofs.Rows.{rows-same, rows-whole}
 use Rattle.planar.specs.Cells.{cell, sideBySide}
 use Rattle.planar.proofs.Cells.{planar-is}
-use Rattle.ps_delay_channels.specs.Rows.{KeptLong, KeptShort, earlier, longDelay, shortDelay}
+use Rattle.ps_delay_channels.specs.Spans.{longDelay, shortDelay, earlier}
 use Rattle.ps_delay_channels.proofs.Bands.{earlier-kept, earlier-came, lent-pair, pair-before, pair-behind, pair-within}
+
+-- ---- what the memories hold after a frame: what its next slots would read
+abbrev pub KeptLong : ℕ → ℕ → List Float → List Float → List Float → Type 0
+KeptLong position slots input long new =
+    (i j : ℕ) → i < 14 → j < 12 → cell 1 new (24 * ((position + (slots + i)) % 14) + 2 * j) ≡ earlier (longDelay position) long input (slots + i) (23 + j)
+
+abbrev pub KeptShort : ℕ → List Float → List Float → List Float → Type 0
+KeptShort slots input short new = (j : ℕ) → j < 29 → cell 1 new (2 * j) ≡ earlier shortDelay short input slots (35 + j)
 
 -- ---- the ring: of the slots behind the frame, those less than 14 behind slot n read what they will
 pub record Keeping (position slots : ℕ) (input long new : List Float) (n : ℕ) : Type 0 where
@@ -77,23 +85,20 @@ module _ {position slots : ℕ} {input long new : List Float} {n : ℕ} (r : Kee
           other a j h (rows-apart position n m (omega arith) l) (ltb a ((position + n) % 14)) refl ∙ r .at m j u l h
 
   pub keeping-all : n ≡ slots → KeptLong position slots input long new
-  keeping-all e = record { at = λ i j u h. r .at (slots + i) j (omega arith) (omega arith) h }
+  keeping-all e i j u h = r .at (slots + i) j (omega arith) (omega arith) h
 
 -- ---- one row: no slot came, or the last one is copied
 module _ (slots : ℕ) (input short : List Float) where
   pub short-stays : slots ≡ 0 → KeptShort slots input short short
-  short-stays none = record { at = λ j h. earlier-kept shortDelay short input slots (35 + j) (2 * j) (omega arith) (omega arith) }
+  short-stays none j h = earlier-kept shortDelay short input slots (35 + j) (2 * j) (omega arith) (omega arith)
 
   pub short-copied : (w : ℕ) (new : List Float) → w ≡ 58 → slots ≢ 0 → new ≡ part (128 * (slots - 1) + 70) w input → KeptShort slots input short new
-  short-copied w new e some is =
-      record {
-        at = λ j h.
-            let place = 128 * (slots - 1) + 70 in
-            ap (λ (t : List Float). cell 1 t (2 * j)) is
-            ∙ ap (λ (k : ℕ). cell 1 (part place k input) (2 * j)) e
-            ∙ lent-pair place 58 input (2 * j) (omega arith)
-            ∙ earlier-came shortDelay short input slots (35 + j) (place + 2 * j) (omega arith) (omega arith);
-      }
+  short-copied w new e some is j h =
+      let place = 128 * (slots - 1) + 70 in
+      ap (λ (t : List Float). cell 1 t (2 * j)) is
+      ∙ ap (λ (k : ℕ). cell 1 (part place k input) (2 * j)) e
+      ∙ lent-pair place 58 input (2 * j) (omega arith)
+      ∙ earlier-came shortDelay short input slots (35 + j) (place + 2 * j) (omega arith) (omega arith)
 
 -- ---- pairs side by side make their list, and so do rows of them
 pub side-by-side : (f : ℕ → Complex) (count : ℕ) (xs : List Float) → length xs ≡ count * 2 → ((j : ℕ) → j < count → cell 1 xs (2 * j) ≡ f j) → xs ≡ sideBySide f count

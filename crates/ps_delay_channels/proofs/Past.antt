@@ -14,7 +14,7 @@ use Rattle.planar.specs.Cells.{cell}
 use Rattle.planar.specs.Frame.{qmfAt}
 use Rattle.standard.specs.Channel.{back, pastAt}
 use Rattle.ps_delay_channels.specs.declared.rows.Delay.{Delay}
-use Rattle.ps_delay_channels.specs.Rows.{earlier}
+use Rattle.ps_delay_channels.specs.Spans.{earlier}
 
 module _ (past : List Complex) (x : ℕ → Complex) where
   -- from before the frame

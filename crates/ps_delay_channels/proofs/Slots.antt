@@ -20,6 +20,9 @@ use Rattle.standard.specs.Mixing.{leftOf, rightOf}
 abbrev pub weighing : (Bool → Matrix → Complex → Complex → Complex) → List Float → ℕ → Float → List Float → List Float → ℕ → Complex
 weighing side runs n factor samples delayed j = side false (matrixAt runs n) (cell 1 samples (2 * j)) (scaled (cell 1 delayed (2 * j)) factor)
 
+abbrev pub Weighed : (Bool → Matrix → Complex → Complex → Complex) → List Float → ℕ → Float → ℕ → List Float → List Float → List Float → Type 0
+Weighed side runs n factor count samples delayed new = (j : ℕ) → j < count → cell 1 new (2 * j) ≡ weighing side runs n factor samples delayed j
+
 module _ (runs : List Float) (n : ℕ) (few : n < 32) where
   -- a coefficient, read where the code reads it
   abbrev drawn : ℕ → ℕ → Complex

@@ -11,7 +11,7 @@ use lib.ListN.{length}
 use Rattle.complex.specs.declared.Complex.{Complex}
 use Rattle.planar.specs.Frame.{qmfAt, qmfRows}
 use Rattle.planar.proofs.Rows.{rows-are}
-use Rattle.ps_delay_channels.specs.Rows.{Banded}
+use Rattle.ps_delay_channels.specs.Spans.{Banded}
 
 pub banded-none : (from slots : ℕ) (f : ℕ → ℕ → Complex) (old : List Float) → Banded from 0 slots f old old
 banded-none from slots f old =

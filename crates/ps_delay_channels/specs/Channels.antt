@@ -10,11 +10,10 @@ use lib.ListN.{length, getD}
 use Rattle.complex.specs.declared.Complex.{Complex}
 use Rattle.complex.specs.Operations.{scaled}
 use Rattle.layout.specs.declared.Layout.{Layout}
-use Rattle.layout.specs.Numbers.{allPassOf, shortDelayOf, splitOf, unsplitFromOf}
-use Rattle.lists.specs.Rows as lists
+use Rattle.layout.specs.Numbers.{bandsOf, allPassOf, shortDelayOf, splitOf, unsplitFromOf}
+use Rattle.limits.specs.Limits as limits
 use Rattle.planar.specs.Frame.{qmfAt, qmfRows, qmfBandOf}
-use Rattle.planar.specs.Cells.{sideBySide}
-use Rattle.planar.specs.Rings.{ringCell, longPast, shortPast}
+use Rattle.planar.specs.Rings.{longPast, shortPast, plainOf}
 use Rattle.ps_map.specs.Bands.{bandOf, conjugatedOf}
 use Rattle.ps_stereo_slots.specs.declared.Timing.{Timing}
 use Rattle.ps_stereo_slots.specs.Slots.{bordersOf, borderMatrix}
@@ -23,10 +22,10 @@ use Rattle.standard.specs.Channel.{back, pastAt}
 use Rattle.standard.specs.Interpolation.{matrixIn}
 use Rattle.standard.specs.Mixing.{leftOf, rightOf}
 
-module _ (l : Layout) (timing : Timing) (input gains rows long short : List Float) where
+module _ (l : Layout) (timing : Timing) (input gains rows plain : List Float) where
   -- what came into channel k before the frame: its last 14 slots, or the last one
   abbrev pub pastOf : ℕ → List Complex
-  pastOf k = cond (ltb k (shortDelayOf l)) (longPast (timing .turn) long (k - allPassOf l)) (shortPast short (k - shortDelayOf l))
+  pastOf k = cond (ltb k (shortDelayOf l)) (longPast (timing .turn) plain (k - allPassOf l)) (shortPast plain (k - shortDelayOf l))
 
   -- and after n slots of the frame
   unfoldable pub pastThen : ℕ → ℕ → List Complex
@@ -49,13 +48,16 @@ module _ (l : Layout) (timing : Timing) (input gains rows long short : List Floa
   sideRows side slots old =
       qmfRows slots (λ n q. cond (ltb q (qmfBandOf l (allPassOf l))) (qmfAt old n q) (sideAt side n (q + unsplitFromOf l - splitOf l)))
 
-  -- after a frame of at most 32 slots, where the outputs have exactly its rows and the input has them too; nothing changes where they do not
+  -- after a frame of at most 32 slots, where the outputs have exactly its rows, the input has them too and the other lists have room; nothing changes
+  -- where they do not
   abbrev slots : ℕ
   slots = min (timing .slots) 32
 
   module _ (left right : List Float) where
     abbrev pub fits : Bool
-    fits = eqb (length left) (128 * slots) && eqb (length right) (128 * slots) && leb (128 * slots) (length input)
+    fits =
+        eqb (length left) (128 * slots) && eqb (length right) (128 * slots) && leb (128 * slots) (length input)
+        && leb (32 * bandsOf l) (length gains) && leb (limits.course * bandsOf l) (length rows) && eqb (length plain) 394
 
     unfoldable pub leftAfter : List Float
     leftAfter = cond fits (sideRows leftOf slots left) left
@@ -64,8 +66,5 @@ module _ (l : Layout) (timing : Timing) (input gains rows long short : List Floa
     rightAfter = cond fits (sideRows rightOf slots right) right
 
     -- the rings go on where they were
-    unfoldable pub longAfter : List Float
-    longAfter = cond fits (lists.rows (λ r. sideBySide (λ j. ringCell 14 (timing .turn + slots) (pastThen (allPassOf l + j) slots) r) 12) 14) long
-
-    unfoldable pub shortAfter : List Float
-    shortAfter = cond fits (sideBySide (λ j. back 0 (pastThen (shortDelayOf l + j) slots)) 29) short
+    unfoldable pub plainAfter : List Float
+    plainAfter = cond fits (plainOf (timing .turn + slots) (λ j. pastThen (allPassOf l + j) slots) (λ j. pastThen (shortDelayOf l + j) slots)) plain

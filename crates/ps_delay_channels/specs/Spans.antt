@@ -1,81 +1,71 @@
--- Spans: channels side by side that share a stereo band and a delay. What the crate's functions over them ask and answer. Assumes nothing.
-use Prim.Native.Nat.{ℕ, _+_, _-_, _*_, _<_, _≤_}
-use mathlib.Core.Bool.{Bool, false}
+-- Spans: QMF bands side by side that share a stereo band and a delay. What the crate's functions over them ask and answer. Assumes nothing.
+use Prim.Native.Nat.{ℕ, _+_, _-_, _*_, _%_, _<_, _≤_}
+use mathlib.Core.Bool.{Bool, false, cond}
 use mathlib.Core.List.{List}
 use mathlib.Core.Path.{_≡_}
+use lib.Dec.{ltb}
 use lib.Ieee.{Float, nan}
-use lib.ListN.{getD}
+use lib.ListN.{length, getD}
 use Rattle.complex.specs.declared.Complex.{Complex}
 use Rattle.complex.specs.Operations.{scaled}
-use Rattle.layout.specs.declared.Kind.{Kind}
-use Rattle.layout.specs.declared.Kind.the-variants.{AllPass, Long, Short}
 use Rattle.layout.specs.declared.Layout.{Layout}
-use Rattle.layout.specs.Numbers.{allPassOf, channelsOf, shortDelayOf, splitOf, unsplitFromOf}
-use Rattle.lists.specs.Rows as lists
-use Rattle.planar.specs.Cells.{sideBySide}
-use Rattle.planar.specs.Frame.{qmfAt, qmfBandOf}
-use Rattle.planar.specs.Rings.{ringCell}
+use Rattle.layout.specs.Numbers.{splitOf, unsplitFromOf}
+use Rattle.planar.specs.Cells.{cell}
+use Rattle.planar.specs.Frame.{qmfAt}
 use Rattle.ps_map.specs.Bands.{bandOf}
 use Rattle.ps_stereo_slots.specs.declared.Timing.{Timing}
 use Rattle.ps_stereo_slots.specs.Slots.{bordersOf, borderMatrix}
 use Rattle.standard.specs.declared.Matrix.{Matrix}
-use Rattle.standard.specs.Channel.{back}
 use Rattle.standard.specs.Interpolation.{matrixIn}
-use Rattle.standard.specs.Mixing.{leftOf, rightOf}
 use Rattle.ps_delay_channels.specs.declared.rows.Delay.{Delay}
-use Rattle.ps_delay_channels.specs.Channels.{pastThen, sideRows}
-use Rattle.ps_delay_channels.specs.Rows.{Memory, Frame, Banded, earlier, longDelay, shortDelay}
 
--- a frame's rows with all 64 bands
-abbrev pub Framed : ℕ → List Float → List Float → List Float → Type 0
-Framed slots input left right = Frame 0 64 slots input left right
+-- ---- delays by rows
 
--- ---- which channels a span has
+-- both delays: of 14 slots in a ring of 14 rows, and of one slot in one row
+abbrev pub longDelay : ℕ → Delay
+longDelay position = record { slots = 14; first = 23; bands = 12; position = position }
 
--- by the kind of a channel, which is no all-pass channel
-abbrev pub delayOf : ℕ → Kind → Delay
-delayOf position Short = shortDelay
-delayOf position Long = longDelay position
-delayOf position AllPass = longDelay position
+abbrev pub shortDelay : Delay
+shortDelay = record { slots = 1; first = 35; bands = 29; position = 0 }
 
--- the channels of a delay from its first one on, and its memory
-pub record Delayed (l : Layout) (start : ℕ) (d : Delay) (before : List Float) : Type 0 where
-  pub above : allPassOf l ≤ start
-  pub within : start + d .bands ≤ channelsOf l
-  pub stands : d .first ≡ qmfBandOf l start
-  pub memory : Memory d before
+-- some of a delay's QMF bands, from `from` on, and its memory's rows, 24 numbers apart: slot n of a frame reads the one at position + n modulo 14
+pub record Before (d : Delay) (from count : ℕ) (before : List Float) : Type 0 where
+  pub behind : d .first ≤ from
+  pub within : from + count ≤ d .first + d .bands
+  pub bands : d .first + d .bands ≤ 64
+  pub inside : d .position < 14
+  pub room : (n : ℕ) → n < d .slots → 24 * ((d .position + n) % 14) + 2 * d .bands ≤ length before
 
--- the channels from k to before `end` are of one stereo band
-pub record Alike (map : List ℕ) (k end : ℕ) : Type 0 where
-  pub same : (j : ℕ) → k ≤ j → j < end → getD map j 0 ≡ getD map k 0
+-- ---- mixing by rows
 
--- the channel of a QMF band that is not split
-abbrev pub channelOf : Layout → ℕ → ℕ
-channelOf l q = q + unsplitFromOf l - splitOf l
+-- a frame's rows in the input and in both sides
+pub record Frame (slots : ℕ) (input left right : List Float) : Type 0 where
+  pub few : slots ≤ 32
+  pub input-long : 128 * slots ≤ length input
+  pub left-long : length left ≡ 128 * slots
+  pub right-long : length right ≡ 128 * slots
 
--- ---- their sides
+-- rows of which the bands from `from` on, `count` of them, are f's, and all else is as it was
+pub record Banded (from count slots : ℕ) (f : ℕ → ℕ → Complex) (old new : List Float) : Type 0 where
+  pub long : length new ≡ length old
+  pub inside : (n q : ℕ) → n < slots → from ≤ q → q < from + count → qmfAt new n q ≡ f n q
+  pub below : (n q : ℕ) → n < slots → q < from → qmfAt new n q ≡ qmfAt old n q
+  pub above : (n q : ℕ) → n < slots → from + count ≤ q → q < 64 → qmfAt new n q ≡ qmfAt old n q
 
-module _ (timing : Timing) (input gains rows : List Float) where
-  -- a side's sample of QMF band q in slot n, with the coefficients and factors of one stereo band
-  unfoldable pub sideIn : (Bool → Matrix → Complex → Complex → Complex) → ℕ → (ℕ → ℕ → Complex) → ℕ → ℕ → Complex
-  sideIn side band delayed n q =
-      side false (matrixIn (bordersOf (timing .borders) (timing .count)) (borderMatrix rows band) n) (qmfAt input n q) (scaled (delayed n q) (getD gains (32 * band + n) nan))
+module _ (d : Delay) (before input : List Float) where
+  -- what came before slot n of QMF band q by the delay
+  unfoldable pub earlier : ℕ → ℕ → Complex
+  earlier n q = cond (ltb n (d .slots)) (cell 1 before (24 * ((d .position + n) % 14) + 2 * (q - d .first))) (qmfAt input (n - d .slots) q)
 
-module _ (l : Layout) (timing : Timing) (input gains rows : List Float) (d : Delay) (before : List Float) where
-  -- with the stereo band of its channel
-  unfoldable pub sideFrom : (Bool → Matrix → Complex → Complex → Complex) → ℕ → ℕ → Complex
-  sideFrom side n q = sideIn timing input gains rows side (bandOf l (channelOf l q)) (earlier d before input) n q
+  -- a side's sample of it, from the slots' coefficients and factors
+  unfoldable pub mixedAt : (Bool → Matrix → Complex → Complex → Complex) → (ℕ → Matrix) → (ℕ → Float) → ℕ → ℕ → Complex
+  mixedAt side matrix factor n q = side false (matrix n) (qmfAt input n q) (scaled (earlier n q) (factor n))
 
-  -- both sides, when all channels of a delay have come
-  pub record Spanned (left right new-left new-right : List Float) : Type 0 where
-    pub left-bands : Banded (d .first) (d .bands) (timing .slots) (sideFrom leftOf) left new-left
-    pub right-bands : Banded (d .first) (d .bands) (timing .slots) (sideFrom rightOf) right new-right
+  module _ (timing : Timing) (gains rows : List Float) (side : Bool → Matrix → Complex → Complex → Complex) where
+    -- from those of a stereo band in the frame
+    abbrev pub sideIn : ℕ → ℕ → ℕ → Complex
+    sideIn band = mixedAt side (matrixIn (bordersOf (timing .borders) (timing .count)) (borderMatrix rows band)) (λ n. getD gains (32 * band + n) nan)
 
--- ---- the frame
-
--- all of it, as the promise says it
-pub record Done (l : Layout) (timing : Timing) (input gains rows long short left right new-left new-right long-then short-then : List Float) : Type 0 where
-  pub left-rows : new-left ≡ sideRows l timing input gains rows long short leftOf (timing .slots) left
-  pub right-rows : new-right ≡ sideRows l timing input gains rows long short rightOf (timing .slots) right
-  pub fourteen : long-then ≡ lists.rows (λ r. sideBySide (λ j. ringCell 14 (timing .turn + timing .slots) (pastThen l timing input gains rows long short (allPassOf l + j) (timing .slots)) r) 12) 14
-  pub one : short-then ≡ sideBySide (λ j. back 0 (pastThen l timing input gains rows long short (shortDelayOf l + j) (timing .slots))) 29
+    -- from those of the stereo band of its channel
+    unfoldable pub sideFrom : Layout → ℕ → ℕ → Complex
+    sideFrom l n q = sideIn (bandOf l (q + unsplitFromOf l - splitOf l)) n q

@@ -8,8 +8,14 @@ use layout::Layout;
 use ps_stereo_slots::Timing;
 use span::Common;
 ghost use mathlib.Core.Path.{_≡_};
-ghost use Rattle.ps_delay_channels.specs.Channels.{leftAfter, rightAfter, longAfter, shortAfter};
-ghost use Rattle.ps_delay_channels.specs.Spans.{Framed, Done};
+ghost use Prim.Native.Nat.{_+_, _*_, _≤_};
+ghost use lib.ListN.{length};
+ghost use Rattle.layout.specs.Numbers.{bandsOf, allPassOf, shortDelayOf};
+ghost use Rattle.limits.specs.Limits as limits;
+ghost use Rattle.planar.specs.Rings.{plainOf};
+ghost use Rattle.standard.specs.Mixing.{leftOf, rightOf};
+ghost use Rattle.ps_delay_channels.specs.Channels.{pastThen, sideRows, leftAfter, rightAfter, plainAfter};
+ghost use Rattle.ps_delay_channels.specs.Spans.{Frame};
 
 // What every channel takes is made once: the fractions, room for a band's coefficients, and where the ring's oldest row stands. Then both delays, and the
 // frame's last slots become the memory.
@@ -17,55 +23,63 @@ fn frame(
     layout: Layout,
     timing: Timing,
     input: &[f64],
-    gains: &[f64; 1088],
-    rows: &[f64; limits::MATRICES],
-    long: &mut [f64; 336],
-    short: &mut [f64; 58],
+    gains: &[f64],
+    rows: &[f64],
+    plain: &mut [f64],
     left: &mut [f64],
     right: &mut [f64],
 )
-    requires { ⌜ Framed (timing .slots) (now input) (now left) (now right) ⌝ }
-    ensures { λ _. ⌜ Done layout timing (now (input .entry)) (now (gains .entry)) (now (rows .entry)) (now (long .entry)) (now (short .entry))
-        (now (left .entry)) (now (right .entry)) (now (left .exit)) (now (right .exit)) (now (long .exit)) (now (short .exit)) ⌝ }
+    requires { ⌜ Frame (timing .slots) (now input) (now left) (now right) × (length (now plain) ≡ 394) ⌝ }
+    requires { ⌜ (32 * bandsOf layout ≤ length (now gains)) × (limits.course * bandsOf layout ≤ length (now rows)) ⌝ }
+    ensures left { λ _. ⌜ now (left .exit) ≡ sideRows layout timing (now (input .entry)) (now (gains .entry)) (now (rows .entry)) (now (plain .entry)) leftOf (timing .slots) (now (left .entry)) ⌝ }
+    ensures right { λ _. ⌜ now (right .exit) ≡ sideRows layout timing (now (input .entry)) (now (gains .entry)) (now (rows .entry)) (now (plain .entry)) rightOf (timing .slots) (now (right .entry)) ⌝ }
+    ensures plain { λ _. ⌜ now (plain .exit) ≡ plainOf (timing .turn + timing .slots)
+        (λ j. pastThen layout timing (now (input .entry)) (now (gains .entry)) (now (rows .entry)) (now (plain .entry)) (allPassOf layout + j) (timing .slots))
+        (λ j. pastThen layout timing (now (input .entry)) (now (gains .entry)) (now (rows .entry)) (now (plain .entry)) (shortDelayOf layout + j) (timing .slots)) ⌝ }
 {
     let mut fractions = [0.0f64; limits::FRACTIONS];
     let mut runs = [0.0f64; 256];
     let borders = timing.borders;
     ps_stereo_slots::fractions(borders, timing.count, &mut fractions);
     let position = timing.turn % 14;
-    let common = Common {
+    let longs = layout.all_pass();
+    let long = Common {
         layout: layout,
         timing: timing,
-        position: position,
+        delay: span::delay_at(layout, longs, position),
     };
-    let longs = layout.all_pass();
     span::each(
-        common,
+        long,
         longs,
         &fractions,
         input,
         gains,
         rows,
-        long,
+        &plain[0..336],
         &mut runs,
         left,
         right,
     );
     let shorts = layout.short_delay();
+    let short = Common {
+        layout: layout,
+        timing: timing,
+        delay: span::delay_at(layout, shorts, position),
+    };
     span::each(
-        common,
+        short,
         shorts,
         &fractions,
         input,
         gains,
         rows,
-        short,
+        &plain[336..394],
         &mut runs,
         left,
         right,
     );
-    memory::keep_long(input, position, timing.slots, long);
-    memory::keep_short(input, timing.slots, short);
+    memory::keep_long(input, position, timing.slots, &mut plain[0..336]);
+    memory::keep_short(input, timing.slots, &mut plain[336..394]);
 }
 
 // The channels above the all-pass ones, of a frame. What they have in common is lent: the input, ducking factors, the
@@ -74,20 +88,19 @@ pub fn delay_channels(
     layout: Layout,
     timing: Timing,
     input: &[f64],
-    gains: &[f64; 1088],
-    rows: &[f64; limits::MATRICES],
-    long: &mut [f64; 336],
-    short: &mut [f64; 58],
+    gains: &[f64],
+    rows: &[f64],
+    plain: &mut [f64],
     left: &mut [f64],
     right: &mut [f64],
 )
-    ensures left { λ _. ⌜ now (left .exit) ≡ leftAfter layout timing (now (input .entry)) (now (gains .entry)) (now (rows .entry)) (now (long .entry)) (now (short .entry)) (now (left .entry)) (now (right .entry)) ⌝ }
-    ensures right { λ _. ⌜ now (right .exit) ≡ rightAfter layout timing (now (input .entry)) (now (gains .entry)) (now (rows .entry)) (now (long .entry)) (now (short .entry)) (now (left .entry)) (now (right .entry)) ⌝ }
-    ensures long { λ _. ⌜ now (long .exit) ≡ longAfter layout timing (now (input .entry)) (now (gains .entry)) (now (rows .entry)) (now (long .entry)) (now (short .entry)) (now (left .entry)) (now (right .entry)) ⌝ }
-    ensures short { λ _. ⌜ now (short .exit) ≡ shortAfter layout timing (now (input .entry)) (now (gains .entry)) (now (rows .entry)) (now (long .entry)) (now (short .entry)) (now (left .entry)) (now (right .entry)) ⌝ }
+    ensures left { λ _. ⌜ now (left .exit) ≡ leftAfter layout timing (now (input .entry)) (now (gains .entry)) (now (rows .entry)) (now (plain .entry)) (now (left .entry)) (now (right .entry)) ⌝ }
+    ensures right { λ _. ⌜ now (right .exit) ≡ rightAfter layout timing (now (input .entry)) (now (gains .entry)) (now (rows .entry)) (now (plain .entry)) (now (left .entry)) (now (right .entry)) ⌝ }
+    ensures plain { λ _. ⌜ now (plain .exit) ≡ plainAfter layout timing (now (input .entry)) (now (gains .entry)) (now (rows .entry)) (now (plain .entry)) (now (left .entry)) (now (right .entry)) ⌝ }
 {
     let within = limits::least(timing.slots, 32);
     let needed = 128 * within;
+    let bands = layout.bands();
     if left.len() != needed {
         return;
     }
@@ -97,6 +110,15 @@ pub fn delay_channels(
     if input.len() < needed {
         return;
     }
+    if gains.len() < 32 * bands {
+        return;
+    }
+    if rows.len() < limits::COURSE * bands {
+        return;
+    }
+    if plain.len() != 394 {
+        return;
+    }
     let borders = timing.borders;
     let cut = Timing {
         borders: borders,
@@ -104,5 +126,5 @@ pub fn delay_channels(
         slots: within,
         turn: timing.turn,
     };
-    frame(layout, cut, input, gains, rows, long, short, left, right);
+    frame(layout, cut, input, gains, rows, plain, left, right);
 }

@@ -1,9 +1,14 @@
 // QMF bands side by side, slot after slot: a slot's coefficients stand still while its bands go by. Private to the crate.
+ghost use mathlib.Core.Bool.{false};
 ghost use mathlib.Core.Path.{_≡_};
-ghost use Prim.Native.Nat.{_<_};
-ghost use lib.ListN.{length};
+ghost use Prim.Native.Nat.{ℕ, _*_, _<_};
+ghost use lib.Ieee.{nan};
+ghost use lib.ListN.{length, getD};
+ghost use Rattle.complex.specs.Operations.{scaled};
+ghost use Rattle.planar.specs.Cells.{cell};
+ghost use Rattle.planar.specs.Frame.{matrixAt};
 ghost use Rattle.standard.specs.Mixing.{leftOf, rightOf};
-ghost use Rattle.ps_delay_channels.specs.Rows.{Before, Frame, Side, Weighed, Banded, earlier, mixedAt};
+ghost use Rattle.ps_delay_channels.specs.Spans.{Before, Frame, Banded, mixedAt};
 
 // A delay of some slots, of QMF bands from `first` on: its memory is a ring of rows, of which the one at `position` is the oldest.
 pub struct Delay {
@@ -33,9 +38,11 @@ fn weigh(
     right: &mut [f64],
 )
     requires { ⌜ (length (now runs) ≡ 256) × (n < 32) ⌝ }
-    requires { ⌜ Side count (now samples) (now delayed) (now left) (now right) ⌝ }
-    ensures left { λ _. ⌜ Weighed leftOf (now (runs .entry)) n factor count (now (samples .entry)) (now (delayed .entry)) (now (left .exit)) ⌝ }
-    ensures right { λ _. ⌜ Weighed rightOf (now (runs .entry)) n factor count (now (samples .entry)) (now (delayed .entry)) (now (right .exit)) ⌝ }
+    requires { ⌜ (length (now samples) ≡ 2 * count) × (length (now delayed) ≡ 2 * count) × (length (now left) ≡ 2 * count) × (length (now right) ≡ 2 * count) ⌝ }
+    ensures left { λ _. ⌜ ((j : ℕ) → j < count → cell 1 (now (left .exit)) (2 * j)
+        ≡ leftOf false (matrixAt (now (runs .entry)) n) (cell 1 (now (samples .entry)) (2 * j)) (scaled (cell 1 (now (delayed .entry)) (2 * j)) factor)) ⌝ }
+    ensures right { λ _. ⌜ ((j : ℕ) → j < count → cell 1 (now (right .exit)) (2 * j)
+        ≡ rightOf false (matrixAt (now (runs .entry)) n) (cell 1 (now (samples .entry)) (2 * j)) (scaled (cell 1 (now (delayed .entry)) (2 * j)) factor)) ⌝ }
 {
     let a = runs[n];
     let b = runs[n + 32];
@@ -69,11 +76,11 @@ pub fn bands(
     right: &mut [f64],
 )
     requires { ⌜ (length (now runs) ≡ 256) × (length (now gains) ≡ 32) ⌝ }
-    requires { ⌜ Frame (span .from) (span .count) slots (now input) (now left) (now right) × Before (span .delay) (span .from) (span .count) (now before) ⌝ }
-    ensures left { λ _. ⌜ Banded (span .from) (span .count) slots (mixedAt leftOf (now (runs .entry)) (now (gains .entry)) (now (input .entry))
-        (earlier (span .delay) (now (before .entry)) (now (input .entry)))) (now (left .entry)) (now (left .exit)) ⌝ }
-    ensures right { λ _. ⌜ Banded (span .from) (span .count) slots (mixedAt rightOf (now (runs .entry)) (now (gains .entry)) (now (input .entry))
-        (earlier (span .delay) (now (before .entry)) (now (input .entry)))) (now (right .entry)) (now (right .exit)) ⌝ }
+    requires { ⌜ Frame slots (now input) (now left) (now right) × Before (span .delay) (span .from) (span .count) (now before) ⌝ }
+    ensures left { λ _. ⌜ Banded (span .from) (span .count) slots (mixedAt (span .delay) (now (before .entry)) (now (input .entry))
+        leftOf (matrixAt (now (runs .entry))) (λ n. getD (now (gains .entry)) n nan)) (now (left .entry)) (now (left .exit)) ⌝ }
+    ensures right { λ _. ⌜ Banded (span .from) (span .count) slots (mixedAt (span .delay) (now (before .entry)) (now (input .entry))
+        rightOf (matrixAt (now (runs .entry))) (λ n. getD (now (gains .entry)) n nan)) (now (right .entry)) (now (right .exit)) ⌝ }
 {
     let delay = span.delay;
     let from = span.from;

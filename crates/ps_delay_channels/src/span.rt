@@ -6,24 +6,26 @@ use layout::Kind;
 use layout::Layout;
 use ps_stereo_slots::Timing;
 ghost use mathlib.Core.Path.{_≡_};
-ghost use Prim.Native.Nat.{_<_, _≤_};
-ghost use lib.ListN.{length};
-ghost use Rattle.layout.specs.Numbers.{kindOf};
-ghost use Rattle.standard.specs.Mixing.{leftOf, rightOf};
+ghost use Prim.Native.Nat.{ℕ, _+_, _*_, _<_, _≤_};
+ghost use lib.ListN.{length, getD};
+ghost use Rattle.layout.specs.declared.Kind.the-variants.{Long, Short};
+ghost use Rattle.layout.specs.Numbers.{bandsOf, allPassOf, channelsOf, kindOf};
+ghost use Rattle.limits.specs.Limits as limits;
+ghost use Rattle.planar.specs.Frame.{qmfBandOf};
 ghost use Rattle.ps_stereo_slots.specs.Coefficients.{Fractions};
-ghost use Rattle.ps_delay_channels.specs.Rows.{Before, Frame, Banded, earlier};
-ghost use Rattle.ps_delay_channels.specs.Spans.{Framed, Delayed, Alike, Spanned, delayOf, sideIn};
+ghost use Rattle.standard.specs.Mixing.{leftOf, rightOf};
+ghost use Rattle.ps_delay_channels.specs.Spans.{longDelay, shortDelay, Before, Frame, Banded, sideIn, sideFrom};
 
-// What the spans of a frame have in common: the layout, when coefficients change, and the oldest row of the ring.
+// What the spans of a delay have in common: the layout, when coefficients change, and the delay.
 pub struct Common {
     pub layout: Layout,
     pub timing: Timing,
-    pub position: usize,
+    pub delay: Delay,
 }
 
 // The delay of channel k, which is no all-pass channel. Its QMF bands are those of either layout: 23 to 34, or 35 to 63.
-fn delay_at(layout: Layout, k: usize, position: usize) -> Delay
-    ensures { λ r. ⌜ r ≡ delayOf position (kindOf layout k) ⌝ }
+pub fn delay_at(layout: Layout, k: usize, position: usize) -> Delay
+    ensures { λ r. ⌜ (kindOf layout k ≡ Long → r ≡ longDelay position) × (kindOf layout k ≡ Short → r ≡ shortDelay) ⌝ }
 {
     match layout.kind(k) {
         Kind::Short => Delay {
@@ -44,7 +46,7 @@ fn delay_at(layout: Layout, k: usize, position: usize) -> Delay
 // The first channel behind k that is of another stereo band, or `end`.
 fn span_end(map: &[u8; 91], k: usize, end: usize) -> usize
     requires { ⌜ (k < end) × (end ≤ 91) ⌝ }
-    ensures { λ r. ⌜ Alike (now (map .entry)) k r × ((k < r) × (r ≤ end)) ⌝ }
+    ensures { λ r. ⌜ ((j : ℕ) → k ≤ j → j < r → getD (now (map .entry)) j 0 ≡ getD (now (map .entry)) k 0) × ((k < r) × (r ≤ end)) ⌝ }
 {
     let band = map[k];
     let mut next = k + 1;
@@ -64,18 +66,19 @@ fn mix_span(
     fractions: &[f64; limits::FRACTIONS],
     input: &[f64],
     gains: &[f64],
-    rows: &[f64; limits::MATRICES],
+    rows: &[f64],
     before: &[f64],
     runs: &mut [f64; 256],
     left: &mut [f64],
     right: &mut [f64],
 )
-    requires { ⌜ Fractions (timing .borders) (timing .count) (now fractions) × ((length (now gains) ≡ 1088) × (span .band < 34)) ⌝ }
-    requires { ⌜ Frame (span .from) (span .count) (timing .slots) (now input) (now left) (now right) × Before (span .delay) (span .from) (span .count) (now before) ⌝ }
-    ensures left { λ _. ⌜ Banded (span .from) (span .count) (timing .slots) (sideIn timing (now (input .entry)) (now (gains .entry)) (now (rows .entry)) leftOf (span .band)
-        (earlier (span .delay) (now (before .entry)) (now (input .entry)))) (now (left .entry)) (now (left .exit)) ⌝ }
-    ensures right { λ _. ⌜ Banded (span .from) (span .count) (timing .slots) (sideIn timing (now (input .entry)) (now (gains .entry)) (now (rows .entry)) rightOf (span .band)
-        (earlier (span .delay) (now (before .entry)) (now (input .entry)))) (now (right .entry)) (now (right .exit)) ⌝ }
+    requires { ⌜ Fractions (timing .borders) (timing .count) (now fractions) × (span .band < 34) ⌝ }
+    requires { ⌜ (32 * span .band + 32 ≤ length (now gains)) × (limits.course * span .band + limits.course ≤ length (now rows)) ⌝ }
+    requires { ⌜ Frame (timing .slots) (now input) (now left) (now right) × Before (span .delay) (span .from) (span .count) (now before) ⌝ }
+    ensures left { λ _. ⌜ Banded (span .from) (span .count) (timing .slots) (sideIn (span .delay) (now (before .entry)) (now (input .entry))
+        timing (now (gains .entry)) (now (rows .entry)) leftOf (span .band)) (now (left .entry)) (now (left .exit)) ⌝ }
+    ensures right { λ _. ⌜ Banded (span .from) (span .count) (timing .slots) (sideIn (span .delay) (now (before .entry)) (now (input .entry))
+        timing (now (gains .entry)) (now (rows .entry)) rightOf (span .band)) (now (right .entry)) (now (right .exit)) ⌝ }
 {
     let borders = timing.borders;
     let slots = timing.slots;
@@ -102,22 +105,25 @@ pub fn each(
     fractions: &[f64; limits::FRACTIONS],
     input: &[f64],
     gains: &[f64],
-    rows: &[f64; limits::MATRICES],
+    rows: &[f64],
     before: &[f64],
     runs: &mut [f64; 256],
     left: &mut [f64],
     right: &mut [f64],
 )
-    requires { ⌜ Fractions (common .timing .borders) (common .timing .count) (now fractions) × (length (now gains) ≡ 1088) ⌝ }
-    requires { ⌜ Framed (common .timing .slots) (now input) (now left) (now right)
-        × Delayed (common .layout) start (delayOf (common .position) (kindOf (common .layout) start)) (now before) ⌝ }
-    ensures { λ _. ⌜ Spanned (common .layout) (common .timing) (now (input .entry)) (now (gains .entry)) (now (rows .entry))
-        (delayOf (common .position) (kindOf (common .layout) start)) (now (before .entry)) (now (left .entry)) (now (right .entry)) (now (left .exit)) (now (right .exit)) ⌝ }
+    requires { ⌜ Fractions (common .timing .borders) (common .timing .count) (now fractions) × Frame (common .timing .slots) (now input) (now left) (now right) ⌝ }
+    requires { ⌜ (32 * bandsOf (common .layout) ≤ length (now gains)) × (limits.course * bandsOf (common .layout) ≤ length (now rows)) ⌝ }
+    requires { ⌜ (allPassOf (common .layout) ≤ start) × (start + common .delay .bands ≤ channelsOf (common .layout)) × (common .delay .first ≡ qmfBandOf (common .layout) start)
+        × Before (common .delay) (common .delay .first) (common .delay .bands) (now before) ⌝ }
+    ensures left { λ _. ⌜ Banded (common .delay .first) (common .delay .bands) (common .timing .slots) (sideFrom (common .delay) (now (before .entry)) (now (input .entry))
+        (common .timing) (now (gains .entry)) (now (rows .entry)) leftOf (common .layout)) (now (left .entry)) (now (left .exit)) ⌝ }
+    ensures right { λ _. ⌜ Banded (common .delay .first) (common .delay .bands) (common .timing .slots) (sideFrom (common .delay) (now (before .entry)) (now (input .entry))
+        (common .timing) (now (gains .entry)) (now (rows .entry)) rightOf (common .layout)) (now (right .entry)) (now (right .exit)) ⌝ }
 {
     let layout = common.layout;
     let timing = common.timing;
     let map = ps_map::parameter_map(layout);
-    let delay = delay_at(layout, start, common.position);
+    let delay = common.delay;
     let end = start + delay.bands;
     let mut k = start;
     while k < end {

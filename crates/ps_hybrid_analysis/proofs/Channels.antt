@@ -1,22 +1,23 @@
 -- What a stage writes of the hybrid samples: one channel's run that is lent and comes back, stages after one another, and all of them as rows.
 -- Assumes nothing.
-use mathlib.Core.Path.{_≡_, refl, sym, ap, _∙_}
+use mathlib.Core.Path.{_≡_, refl, sym, ap, ap₂, _∙_}
 use mathlib.Core.Bool.{Bool, true, false, cond}
-use mathlib.Core.List.{List}
+use mathlib.Core.List.{List, _++_}
 use Prim.Native.Nat.{ℕ, _+_, _-_, _*_, _<_, _≤_}
-use native.Mathlib.Nat.{add-sub-cancel-left, mul-comm}
+use native.Mathlib.Nat.{add-sub-cancel-left, add-sub-of-le, mul-comm}
 use native.Mathlib.Omega.{arith}
 use borrow.Author.Tests.{ltb-true, ltb-false, lt-ltb, le-ltb}
 use borrow.Rule.Slice.PartMut.{same-len-mid}
 use lib.Dec.{ltb}
 use lib.Ieee.{Float}
-use lib.ListN.{length}
+use lib.ListN.{length, take, drop, length-append, take-append-drop}
+use lib.Seq.{drop-at, drop-drop, length-take-le}
 use Rattle.complex.specs.declared.Complex.{Complex}
 use Rattle.complex.specs.Operations.{sum}
 use Rattle.lists.specs.Part.{part, put}
 use Rattle.lists.specs.Rows.{rows}
-use Rattle.lists.proofs.Parts.{part-length, part-put, part-put-before, part-put-behind}
-use Rattle.lists.proofs.Rows.{rows-same, rows-whole}
+use Rattle.lists.proofs.Parts.{part-length, part-put, part-put-before, part-put-behind, put-line}
+use Rattle.lists.proofs.Rows.{rows-same, rows-cut}
 use Rattle.planar.specs.Cells.{cell, planar, overwritten}
 use Rattle.planar.specs.Frame.{sampleAt}
 use Rattle.planar.proofs.Cells.{planar-is, planar-at, planar-length}
@@ -26,15 +27,25 @@ use Rattle.ps_hybrid_analysis.specs.Stages.{Written}
 pub width : (a w : ℕ) → a + w - a ≡ w
 width a w = add-sub-cancel-left a w
 
-pub lent-long : (c w : ℕ) (xs : List Float) → w ≡ 64 → length xs ≡ 2048 → c < 32 → length (part (64 * c) w xs) ≡ 64
-lent-long c w xs e long room = rw e (part-length (64 * c) 64 xs (omega arith))
+pub lent-long : (c w : ℕ) (xs : List Float) → w ≡ 64 → 64 * c + 64 ≤ length xs → length (part (64 * c) w xs) ≡ 64
+lent-long c w xs e room = rw e (part-length (64 * c) 64 xs room)
 
 pub written-none : (slots from : ℕ) (h : ℕ → ℕ → Complex) (xs : List Float) → Written slots from from h xs xs
 written-none slots from h xs =
-    record { long = refl; inside = λ k n u v w. absurd (omega arith); below = λ k n u v. refl; above = λ k n u v w. refl; behind = λ k n u v w. refl }
+    record { long = refl; inside = λ k n u v w. absurd (omega arith); below = λ k n u v. refl; behind = λ k n u v. refl; rest = refl }
+
+-- what lies behind a part that is back, and behind what lies behind
+behind-put : (a k : ℕ) (xs ys : List Float) → a ≤ length xs → length ys ≡ k → drop (a + k) (put a k xs ys) ≡ drop (a + k) xs
+behind-put a k xs ys inside h =
+    ap (drop (a + k)) (put-line a k xs ys) ∙ drop-at (take a xs ++ ys) (drop (a + k) xs) (a + k) (rw (length-append, length-take-le a xs inside, h))
+
+pub drop-more : (a b : ℕ) (xs ys : List Float) → drop a xs ≡ drop a ys → a ≤ b → drop b xs ≡ drop b ys
+drop-more a b xs ys e h =
+    let on : (zs : List Float) → drop b zs ≡ drop (b - a) (drop a zs) = λ zs. ap (λ (n : ℕ). drop n zs) (sym (add-sub-of-le h)) ∙ sym (drop-drop (b - a) a zs) in
+    on xs ∙ ap (drop (b - a)) e ∙ sym (on ys)
 
 -- ---- one channel's run
-module _ (slots c : ℕ) (h : ℕ → ℕ → Complex) (old ys : List Float) (long : length old ≡ 2048) (room : c < 32) (few : slots ≤ 32)
+module _ (slots c : ℕ) (h : ℕ → ℕ → Complex) (old ys : List Float) (room : 64 * c + 64 ≤ length old) (few : slots ≤ 32)
     (is : ys ≡ planar 32 (overwritten slots (h c) (cell 32 (part (64 * c) 64 old)))) where
   row : length ys ≡ 64
   row = ap length is ∙ planar-length 32 (overwritten slots (h c) (cell 32 (part (64 * c) 64 old)))
@@ -54,13 +65,16 @@ module _ (slots c : ℕ) (h : ℕ → ℕ → Complex) (old ys : List Float) (lo
   pub written-row : Written slots c (c + 1) h old (put (64 * c) 64 old ys)
   written-row =
       record {
-        long = same-len-mid (64 * c) 64 old ys (row ∙ sym (part-length (64 * c) 64 old (omega arith)));
+        long = same-len-mid (64 * c) 64 old ys (row ∙ sym (part-length (64 * c) 64 old room));
         inside = λ k n u v w. here k n (omega arith) (omega arith) ∙ rw (lt-ltb n slots w);
         below = λ k n u v. ap (λ (t : List Float). cell 32 t n) (before k u);
-        above = λ k n u v w. ap (λ (t : List Float). cell 32 t n) (after k (omega arith));
-        behind = λ k n u v w. past k n v w (ltb k c) (ltb c k) refl refl;
+        behind = λ k n u v. past k n u v (ltb k c) (ltb c k) refl refl;
+        rest = rw (← next) (behind-put (64 * c) 64 old ys (omega arith) row);
       }
     where
+      next : 64 * c + 64 ≡ 64 * (c + 1)
+      next = omega arith
+
       past : (k n : ℕ) → slots ≤ n → n < 32 → (s t : Bool) → ltb k c ≡ s → ltb c k ≡ t → sampleAt (put (64 * c) 64 old ys) n k ≡ sampleAt old n k
       past k n v w true t e f = ap (λ (t : List Float). cell 32 t n) (before k (ltb-true k c e))
       past k n v w false true e f = ap (λ (t : List Float). cell 32 t n) (after k (ltb-true c k f))
@@ -69,9 +83,9 @@ module _ (slots c : ℕ) (h : ℕ → ℕ → Complex) (old ys : List Float) (lo
           here k n same w ∙ rw (le-ltb n slots v)
 
 -- the run as it is lent and comes back
-pub written-lent : (slots c w : ℕ) (h : ℕ → ℕ → Complex) (old ys : List Float) → w ≡ 64 → length old ≡ 2048 → c < 32 → slots ≤ 32
+pub written-lent : (slots c w : ℕ) (h : ℕ → ℕ → Complex) (old ys : List Float) → w ≡ 64 → 64 * c + 64 ≤ length old → slots ≤ 32
     → ys ≡ planar 32 (overwritten slots (h c) (cell 32 (part (64 * c) w old))) → Written slots c (c + 1) h old (put (64 * c) w old ys)
-written-lent slots c w h old ys e long room few is = rw e (written-row slots c h old ys long room few (rw e at is))
+written-lent slots c w h old ys e room few is = rw e (written-row slots c h old ys room few (rw e at is))
 
 -- ---- stages after one another
 module _ {slots from to : ℕ} {h : ℕ → ℕ → Complex} {old mid : List Float} (r : Written slots from to h old mid) where
@@ -82,8 +96,8 @@ module _ {slots from to : ℕ} {h : ℕ → ℕ → Complex} {old mid : List Flo
         long = s .long ∙ r .long;
         inside = λ k n a b d. at k n a b d (ltb k to) refl;
         below = λ k n a b. s .below k n (omega arith) b ∙ r .below k n a b;
-        above = λ k n a b d. s .above k n a b d ∙ r .above k n (omega arith) b d;
-        behind = λ k n a b d. s .behind k n a b d ∙ r .behind k n a b d;
+        behind = λ k n a b. s .behind k n a b ∙ r .behind k n a b;
+        rest = s .rest ∙ drop-more (64 * to) (64 * end) mid old (r .rest) (omega arith);
       }
     where
       at : (k n : ℕ) → from ≤ k → k < end → n < slots → (t : Bool) → ltb k to ≡ t → sampleAt new n k ≡ h k n
@@ -97,45 +111,43 @@ module _ {slots from to : ℕ} {h : ℕ → ℕ → Complex} {old mid : List Flo
         long = s .long ∙ r .long;
         inside = s .inside;
         below = λ k n a b. s .below k n a b ∙ r .below k n a b;
-        above = λ k n a b d. s .above k n a b d ∙ r .above k n a b d;
-        behind = λ k n a b d. s .behind k n a b d ∙ r .behind k n a b d;
+        behind = λ k n a b. s .behind k n a b ∙ r .behind k n a b;
+        rest = s .rest ∙ r .rest;
       }
 
   pub written-same : (g : ℕ → ℕ → Complex) → ((k n : ℕ) → from ≤ k → k < to → n < slots → h k n ≡ g k n) → Written slots from to g old mid
   written-same g e =
-      record { long = r .long; inside = λ k n a b d. r .inside k n a b d ∙ e k n a b d; below = r .below; above = r .above; behind = r .behind }
+      record { long = r .long; inside = λ k n a b d. r .inside k n a b d ∙ e k n a b d; below = r .below; behind = r .behind; rest = r .rest }
 
 -- the same run, to which a filter's answer is added
-pub written-added : (slots c w : ℕ) (y z : ℕ → Complex) (old ys : List Float) → w ≡ 64 → length old ≡ 2048 → c < 32 → slots ≤ 32
+pub written-added : (slots c w : ℕ) (y z : ℕ → Complex) (old ys : List Float) → w ≡ 64 → 64 * c + 64 ≤ length old → slots ≤ 32
     → ys ≡ planar 32 (overwritten slots (λ n. sum (cell 32 (part (64 * c) w old) n) (y n)) (cell 32 (part (64 * c) w old)))
     → ((n : ℕ) → y n ≡ z n) → Written slots c (c + 1) (λ k n. sum (sampleAt old n k) (z n)) old (put (64 * c) w old ys)
-written-added slots c w y z old ys e long room few is same =
+written-added slots c w y z old ys e room few is same =
     rw e
-    (written-same (written-row slots c (λ k n. sum (sampleAt old n k) (y n)) old ys long room few (rw e at is)) (λ k n. sum (sampleAt old n k) (z n))
+    (written-same (written-row slots c (λ k n. sum (sampleAt old n k) (y n)) old ys room few (rw e at is)) (λ k n. sum (sampleAt old n k) (z n))
     (λ k n a b d. ap (λ (v : Complex). sum (sampleAt old n k) v) (same n)))
 
 -- ---- all of them, as rows
-module _ {slots to : ℕ} {h : ℕ → ℕ → Complex} {old new : List Float} (r : Written slots 0 to h old new) (long : length old ≡ 2048) where
-  run-long : (xs : List Float) (k : ℕ) → k < 32 → length xs ≡ 2048 → length (part (64 * k) 64 xs) ≡ 32 + 32
-  run-long xs k u l = part-length (64 * k) 64 xs (omega arith)
-
-  written : (k : ℕ) → k < 32 → (t : Bool) → ltb k to ≡ t
-      → part (64 * k) 64 new ≡ cond t (planar 32 (overwritten slots (h k) (λ n. sampleAt old n k))) (part (64 * k) 64 old)
-  written k u true e =
-      planar-is 32 (part (64 * k) 64 new) (overwritten slots (h k) (λ n. sampleAt old n k)) (run-long new k u (r .long ∙ long)) (λ n v. at n v (ltb n slots) refl)
+module _ {slots to : ℕ} {h : ℕ → ℕ → Complex} {old new : List Float} (r : Written slots 0 to h old new) (room : 64 * to ≤ length old) where
+  written : (k : ℕ) → k < to → part (64 * k) 64 new ≡ planar 32 (overwritten slots (h k) (λ n. sampleAt old n k))
+  written k u =
+      planar-is 32 (part (64 * k) 64 new) (overwritten slots (h k) (λ n. sampleAt old n k)) (part-length (64 * k) 64 new (omega (arith, r .long)))
+      (λ n v. at n v (ltb n slots) refl)
     where
       at : (n : ℕ) → n < 32 → (s : Bool) → ltb n slots ≡ s → sampleAt new n k ≡ cond s (h k n) (sampleAt old n k)
-      at n v true f = r .inside k n (omega arith) (ltb-true k to e) (ltb-true n slots f)
-      at n v false f = r .behind k n u (ltb-false n slots f) v
-  written k u false e =
-      planar-is 32 (part (64 * k) 64 new) (λ n. sampleAt old n k) (run-long new k u (r .long ∙ long)) (λ n v. r .above k n (ltb-false k to e) u v)
-      ∙ sym (planar-is 32 (part (64 * k) 64 old) (λ n. sampleAt old n k) (run-long old k u long) (λ n v. refl))
+      at n v true f = r .inside k n (omega arith) u (ltb-true n slots f)
+      at n v false f = r .behind k n (ltb-false n slots f) v
 
-  pub written-rows : new ≡ rows (λ k. cond (ltb k to) (planar 32 (overwritten slots (h k) (λ n. sampleAt old n k))) (part (64 * k) 64 old)) 32
+  pub written-rows : new ≡ rows (λ k. planar 32 (overwritten slots (h k) (λ n. sampleAt old n k))) to ++ drop (64 * to) old
   written-rows =
-      sym (rows-whole 64 32 new (r .long ∙ long))
-      ∙ rows-same (λ k. part (k * 64) 64 new) (λ k. cond (ltb k to) (planar 32 (overwritten slots (h k) (λ n. sampleAt old n k))) (part (64 * k) 64 old)) 32
-      (λ k u. ap (λ (a : ℕ). part a 64 new) (mul-comm k 64) ∙ written k u (ltb k to) refl)
+      sym (take-append-drop (64 * to) new)
+      ∙ ap₂ (λ (a b : List Float). a ++ b)
+      (ap (λ (m : ℕ). take m new) (mul-comm 64 to)
+      ∙ sym (rows-cut 64 to new)
+      ∙ rows-same (λ k. part (k * 64) 64 new) (λ k. planar 32 (overwritten slots (h k) (λ n. sampleAt old n k))) to
+      (λ k u. ap (λ (a : ℕ). part a 64 new) (mul-comm k 64) ∙ written k u))
+      (r .rest)
 
 -- ---- a loop over channels
 pub record Writing (slots from to : ℕ) (h : ℕ → ℕ → Complex) (old new : List Float) (k : ℕ) : Type 0 where

@@ -1,19 +1,25 @@
 -- A loop that writes a run of complex numbers from the front: one turn stores one of them, and those behind it are as they were. Assumes nothing.
-use mathlib.Core.Path.{_≡_, refl, _∙_}
+use mathlib.Core.Path.{_≡_, refl, ap, _∙_}
 use mathlib.Core.Bool.{Bool, true, false, cond}
 use mathlib.Core.Logic.{_⊎_, inl, inr}
 use mathlib.Core.List.{List}
 use Prim.Native.Nat.{ℕ, _+_, _-_, _*_, _<_, _≤_}
 use native.Mathlib.Nat.{eq-or-lt-of-le}
 use native.Mathlib.Omega.{arith}
-use borrow.Author.Tests.{ltb-true, ltb-false}
+use borrow.Author.Tests.{ltb-true, ltb-false, lt-ltb}
 use lib.Dec.{ltb}
 use lib.Ieee.{Float}
 use lib.ListN.{length}
 use Rattle.complex.specs.declared.Complex.{Complex}
 use Rattle.planar.specs.Cells.{cell, stored, planar, overwritten}
-use Rattle.planar.proofs.Cells.{stored-length, stored-same, stored-other, planar-is}
-use Rattle.ps_hybrid_analysis.specs.Stages.{Filled, Gathered, bandAt}
+use Rattle.planar.proofs.Cells.{stored-length, stored-same, stored-other, planar-is, planar-at, planar-same}
+use Rattle.ps_hybrid_analysis.specs.Stages.{bandAt}
+
+-- the first `count` are f's, the others as they were
+pub record Filled (apart count : ℕ) (f : ℕ → Complex) (old new : List Float) : Type 0 where
+  pub long : length new ≡ length old
+  pub done : (i : ℕ) → i < count → i < apart → cell apart new i ≡ f i
+  pub rest : (i : ℕ) → count ≤ i → i < apart → cell apart new i ≡ cell apart old i
 
 pub filled-none : (apart : ℕ) (f : ℕ → Complex) (xs : List Float) → Filled apart 0 f xs xs
 filled-none apart f xs = record { long = refl; done = λ i u w. absurd (omega arith); rest = λ i u w. refl }
@@ -51,13 +57,23 @@ pub record Filling (apart most : ℕ) (f : ℕ → Complex) (old new : List Floa
   pub filled : Filled apart n f old new
 
 -- ---- a band's slots, from the history and then from the input
-pub gathered : (history input : List Float) (p count : ℕ) {zeros mid band : List Float} → Filled 44 6 (cell 6 history) zeros mid
-    → Filled 44 count (overwritten 6 (cell 44 mid) (λ j. cell 1 input (128 * (j - 6) + 2 * p))) mid band
-    → length zeros ≡ 88 → count ≤ 44 → Gathered count (bandAt history input p) band
-gathered history input p count {zeros} {mid} {band} r s long most =
-    record { long = s .long ∙ r .long ∙ long; cells = λ j u. s .done j u (omega arith) ∙ at j (ltb j 6) refl }
+pub gathered : (history input : List Float) (p count : ℕ) (zeros mid : List Float) {band : List Float} → mid ≡ planar 44 (overwritten 6 (cell 6 history) (cell 44 zeros))
+    → band ≡ planar 44 (overwritten count (overwritten 6 (cell 44 mid) (λ j. cell 1 input (128 * (j - 6) + 2 * p))) (cell 44 mid))
+    → 6 ≤ count → band ≡ planar 44 (overwritten count (bandAt history input p) (cell 44 zeros))
+gathered history input p count zeros mid r s most = s ∙ planar-same 44 _ _ (λ j u. at j (ltb j count) refl (ltb j 6) refl (had j u))
   where
-    at : (j : ℕ) → (t : Bool) → ltb j 6 ≡ t
-        → cond t (cell 44 mid j) (cell 1 input (128 * (j - 6) + 2 * p)) ≡ cond t (cell 6 history j) (cell 1 input (128 * (j - 6) + 2 * p))
-    at j true e = r .done j (ltb-true j 6 e) (omega (arith, ltb-true j 6 e))
-    at j false e = refl
+    had : (j : ℕ) → j < 44 → cell 44 mid j ≡ overwritten 6 (cell 6 history) (cell 44 zeros) j
+    had j u = ap (λ (t : List Float). cell 44 t j) r ∙ planar-at 44 (overwritten 6 (cell 6 history) (cell 44 zeros)) j u
+
+    at : (j : ℕ) (s : Bool) → ltb j count ≡ s → (t : Bool) → ltb j 6 ≡ t → cell 44 mid j ≡ cond t (cell 6 history j) (cell 44 zeros j)
+        → cond s (cond t (cell 44 mid j) (cell 1 input (128 * (j - 6) + 2 * p))) (cell 44 mid j)
+        ≡ cond s (cond t (cell 6 history j) (cell 1 input (128 * (j - 6) + 2 * p))) (cell 44 zeros j)
+    at j true e true f is = is
+    at j true e false f is = refl
+    at j false e true f is = absurd (omega (arith, ltb-false j count e, ltb-true j 6 f))
+    at j false e false f is = is
+
+-- what stands in a list of a band
+pub slot-at : (count : ℕ) (x y : ℕ → Complex) {band : List Float} → band ≡ planar 44 (overwritten count x y) → count ≤ 44 → (j : ℕ) → j < count → cell 44 band j ≡ x j
+slot-at count x y e most j u =
+    ap (λ (t : List Float). cell 44 t j) e ∙ planar-at 44 (overwritten count x y) j (omega arith) ∙ rw (lt-ltb j count u)

@@ -6,7 +6,7 @@ use native.Mathlib.Nat.{mul-le-mul}
 use native.Mathlib.Omega.{arith}
 use Rattle.layout.specs.declared.Layout.{Layout}
 use Rattle.layout.specs.declared.Layout.the-variants.{Bands20, Bands34}
-use Rattle.layout.specs.Numbers.{splitOf}
+use Rattle.layout.specs.Numbers.{splitOf, unsplitFromOf}
 use Rattle.decimals.specs.declared.Prototype.{Prototype}
 use Rattle.decimals.specs.declared.Prototype.the-variants.{EighthsOfBand0, Halves, Twelfths, EighthsOfBand1, Quarters}
 use Rattle.standard.specs.Hybrid.{prototypeFor, filtersOf, channelFor, firstChannelOf}
@@ -76,6 +76,6 @@ channel-inside Bands34 (suc (suc (suc zero))) q h u = record { from = omega arit
 channel-inside Bands34 (suc (suc (suc (suc zero)))) q h u = record { from = omega arith; to = omega arith }
 channel-inside Bands34 (suc (suc (suc (suc (suc p))))) q h u = absurd (omega arith)
 
--- so it is one of 32
-pub channel-few : (l : Layout) (p q r : ℕ) → p < splitOf l → q < filtersOf (prototypeFor l p) → r ≡ channelFor l p q → (r ≡ channelFor l p q) × (r < 32)
-channel-few l p q r h u e = (e, omega (arith, channel-inside l p q h u .to, spans l (suc p) .few))
+-- so it is one of the layout's
+pub channel-few : (l : Layout) (p q r : ℕ) → p < splitOf l → q < filtersOf (prototypeFor l p) → r ≡ channelFor l p q → (r ≡ channelFor l p q) × (r < unsplitFromOf l)
+channel-few l p q r h u e = (e, omega (arith, channel-inside l p q h u .to, spans l (suc p) .most))

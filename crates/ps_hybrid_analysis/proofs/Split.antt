@@ -2,48 +2,52 @@
 use mathlib.Core.Path.{_≡_, refl, sym, ap, ap₂, _∙_}
 use mathlib.Core.Bool.{Bool, true, false, cond}
 use mathlib.Core.List.{List}
-use Prim.Native.Nat.{ℕ, zero, suc, _+_, _-_, _<_, _≤_}
+use Prim.Native.Nat.{ℕ, zero, suc, _+_, _-_, _*_, _<_, _≤_}
 use native.Mathlib.Numerals.{add-one}
 use native.Mathlib.Omega.{arith}
 use borrow.Author.Tests.{eqb-true, eqb-false, ltb-true, ltb-false, lt-ltb, le-ltb}
 use lib.Dec.{eqb, ltb}
 use lib.Ieee.{Float}
+use lib.ListN.{take}
 use Rattle.complex.specs.declared.Complex.{Complex}
 use Rattle.complex.specs.Operations.{sum}
 use Rattle.decimals.specs.declared.Prototype.{Prototype}
 use Rattle.layout.specs.declared.Layout.{Layout}
 use Rattle.layout.specs.declared.Layout.the-variants.{Bands20, Bands34}
 use Rattle.layout.specs.Numbers.{splitOf, unsplitFromOf}
+use Rattle.planar.specs.Cells.{cell}
 use Rattle.planar.specs.Frame.{sampleAt}
 use Rattle.standard.specs.Numbers.{nought}
 use Rattle.standard.specs.Hybrid.{prototypeFor, filtersOf, filtered, channelFor, joinedTo, firstChannelOf, bandBelow, hybrid}
-use Rattle.ps_hybrid_analysis.specs.Stages.{Written, Blank}
-use Rattle.ps_hybrid_analysis.proofs.Channels.{written-over, written-on, written-same}
+use Rattle.ps_hybrid_analysis.specs.Stages.{Written}
+use Rattle.ps_hybrid_analysis.proofs.Channels.{drop-more, written-over, written-on, written-same}
 use Rattle.standard.proofs.Spans.{spans}
 use Rattle.ps_hybrid_analysis.proofs.Taps.{filtered-same}
 
 -- ---- the filters of a band, one after the other
 module _ (l : Layout) (p : ℕ) (x : ℕ → Complex) {slots from to : ℕ} {old : List Float} where
-  pub joined-none : Blank slots from to old → Written slots from to (λ k n. joinedTo l p x n k 0) old old
+  pub joined-none : ((k n : ℕ) → from ≤ k → k < to → n < slots → sampleAt old n k ≡ nought) → Written slots from to (λ k n. joinedTo l p x n k 0) old old
   unfolding joinedTo
-  joined-none r = record { long = refl; inside = r .blank; below = λ k n u v. refl; above = λ k n u v w. refl; behind = λ k n u v w. refl }
+  joined-none r = record { long = refl; inside = r; below = λ k n u v. refl; behind = λ k n u v. refl; rest = refl }
 
   pub joined-more : (q : ℕ) (t : Prototype) {mid new : List Float} → t ≡ prototypeFor l p → Written slots from to (λ k n. joinedTo l p x n k q) old mid
       → Written slots (channelFor l p q) (channelFor l p q + 1) (λ k n. sum (sampleAt mid n k) (filtered t q x n)) mid new
-      → slots ≤ 32 → to ≤ 32 → from ≤ channelFor l p q → channelFor l p q < to → Written slots from to (λ k n. joinedTo l p x n k (q + 1)) old new
+      → slots ≤ 32 → from ≤ channelFor l p q → channelFor l p q < to → Written slots from to (λ k n. joinedTo l p x n k (q + 1)) old new
   unfolding joinedTo
-  joined-more q t {mid} {new} g r s few most u v =
+  joined-more q t {mid} {new} g r s few u v =
       record {
         long = s .long ∙ r .long;
         inside = λ k n a b d. rw (add-one q) (at k n a b d (eqb (channelFor l p q) k) refl);
         below = λ k n a b. s .below k n (omega arith) b ∙ r .below k n a b;
-        above = λ k n a b d. s .above k n (omega arith) b d ∙ r .above k n a b d;
-        behind = λ k n a b d. s .behind k n a b d ∙ r .behind k n a b d;
+        behind = λ k n a b. s .behind k n a b ∙ r .behind k n a b;
+        rest = drop-more (64 * (channelFor l p q + 1)) (64 * to) new mid (s .rest) (omega arith) ∙ r .rest;
       }
     where
       other : (k n : ℕ) → k < to → n < slots → (channelFor l p q ≡ k → ⊥) → (t : Bool) → ltb k (channelFor l p q) ≡ t → sampleAt new n k ≡ sampleAt mid n k
       other k n b d f true e = s .below k n (ltb-true k (channelFor l p q) e) (omega arith)
-      other k n b d f false e = let past : channelFor l p q + 1 ≤ k = omega (arith, ltb-false k (channelFor l p q) e) in s .above k n past (omega arith) (omega arith)
+      other k n b d f false e =
+          let past : channelFor l p q + 1 ≤ k = omega (arith, ltb-false k (channelFor l p q) e) in
+          ap (λ (t : List Float). cell 32 (take 64 t) n) (drop-more (64 * (channelFor l p q + 1)) (64 * k) new mid (s .rest) (omega arith))
 
       at : (k n : ℕ) → from ≤ k → k < to → n < slots → (t : Bool) → eqb (channelFor l p q) k ≡ t → sampleAt new n k ≡ joinedTo l p x n k (suc q)
       at k n a b d true e =
@@ -56,8 +60,9 @@ module _ (l : Layout) (p : ℕ) (x : ℕ → Complex) {slots from to : ℕ} {old
 
 -- the band's channels are 0, and then its filters are joined
 module _ (l : Layout) (p : ℕ) {slots from to : ℕ} {old mid : List Float} where
-  pub silenced : Written slots from to (λ k n. nought) old mid → from ≡ firstChannelOf l p → to ≡ firstChannelOf l (suc p) → Blank slots (firstChannelOf l p) (firstChannelOf l (suc p)) mid
-  silenced r a b = record { blank = rw (a, b) at (r .inside) }
+  pub silenced : Written slots from to (λ k n. nought) old mid → from ≡ firstChannelOf l p → to ≡ firstChannelOf l (suc p)
+      → (k n : ℕ) → firstChannelOf l p ≤ k → k < firstChannelOf l (suc p) → n < slots → sampleAt mid n k ≡ nought
+  silenced r a b = rw (a, b) at (r .inside)
 
   pub banded : (x : ℕ → Complex) (t : Prototype) {new : List Float} → Written slots from to (λ k n. nought) old mid
       → Written slots (firstChannelOf l p) (firstChannelOf l (suc p)) (λ k n. joinedTo l p x n k (filtersOf t)) mid new → from ≡ firstChannelOf l p → to ≡ firstChannelOf l (suc p)

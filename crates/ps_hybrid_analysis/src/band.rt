@@ -3,12 +3,12 @@ ghost use mathlib.Core.Path.{_≡_};
 ghost use Prim.Native.Nat.{_+_, _-_, _*_, _<_, _≤_};
 ghost use lib.ListN.{length};
 ghost use Rattle.planar.specs.Cells.{cell, planar, overwritten};
-ghost use Rattle.ps_hybrid_analysis.specs.Stages.{Filled, Gathered, bandAt};
+ghost use Rattle.ps_hybrid_analysis.specs.Stages.{bandAt};
 
 // Six slots of history.
 fn past(history: &[f64], band: &mut [f64])
     requires { ⌜ (length (now history) ≡ 12) × (length (now band) ≡ 88) ⌝ }
-    ensures { λ _. ⌜ Filled 44 6 (cell 6 (now (history .entry))) (now (band .entry)) (now (band .exit)) ⌝ }
+    ensures { λ _. ⌜ now (band .exit) ≡ planar 44 (overwritten 6 (cell 6 (now (history .entry))) (cell 44 (now (band .entry)))) ⌝ }
 {
     for j in 0..6 {
         band[j] = history[j];
@@ -20,8 +20,8 @@ fn past(history: &[f64], band: &mut [f64])
 fn ahead(input: &[f64], p: usize, count: usize, band: &mut [f64])
     requires { ⌜ (p < 5) × ((6 ≤ count) × (count ≤ 44)) ⌝ }
     requires { ⌜ (128 * (count - 6) ≤ length (now input)) × (length (now band) ≡ 88) ⌝ }
-    ensures { λ _. ⌜ Filled 44 count (overwritten 6 (cell 44 (now (band .entry))) (λ j. cell 1 (now (input .entry)) (128 * (j - 6) + 2 * p)))
-        (now (band .entry)) (now (band .exit)) ⌝ }
+    ensures { λ _. ⌜ now (band .exit) ≡ planar 44 (overwritten count
+        (overwritten 6 (cell 44 (now (band .entry))) (λ j. cell 1 (now (input .entry)) (128 * (j - 6) + 2 * p))) (cell 44 (now (band .entry)))) ⌝ }
 {
     for j in 6..count {
         let at = 128 * (j - 6) + 2 * p;
@@ -34,7 +34,7 @@ fn ahead(input: &[f64], p: usize, count: usize, band: &mut [f64])
 pub fn gather(history: &[f64], input: &[f64], p: usize, slots: usize, band: &mut [f64])
     requires { ⌜ (p < 5) × (slots ≤ 32) ⌝ }
     requires { ⌜ (length (now history) ≡ 12) × ((128 * (slots + 6) ≤ length (now input)) × (length (now band) ≡ 88)) ⌝ }
-    ensures { λ _. ⌜ Gathered (slots + 12) (bandAt (now (history .entry)) (now (input .entry)) p) (now (band .exit)) ⌝ }
+    ensures { λ _. ⌜ now (band .exit) ≡ planar 44 (overwritten (slots + 12) (bandAt (now (history .entry)) (now (input .entry)) p) (cell 44 (now (band .entry)))) ⌝ }
 {
     past(history, band);
     ahead(input, p, slots + 12, band);

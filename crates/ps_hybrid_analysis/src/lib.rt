@@ -7,19 +7,20 @@ use answer::Answer;
 use decimals::Prototype;
 use layout::Layout;
 ghost use mathlib.Core.Path.{_≡_};
-ghost use Prim.Native.Nat.{suc, _+_, _*_, _<_, _≤_};
-ghost use lib.ListN.{length};
+ghost use mathlib.Core.List.{_++_};
+ghost use Prim.Native.Nat.{ℕ, suc, _+_, _*_, _<_, _≤_};
+ghost use lib.ListN.{length, drop};
 ghost use Rattle.borders.specs.Borders.{slotsOf};
 ghost use Rattle.complex.specs.Operations.{sum};
 ghost use Rattle.decimals.specs.Prototypes.{prototypeOf};
 ghost use Rattle.layout.specs.Numbers.{splitOf, unsplitFromOf};
-ghost use Rattle.lists.specs.Part.{part};
+ghost use Rattle.lists.specs.Rows.{rows};
 ghost use Rattle.planar.specs.Cells.{cell, planar, overwritten};
 ghost use Rattle.planar.specs.Frame.{sampleAt};
 ghost use Rattle.standard.specs.Numbers.{nought};
 ghost use Rattle.standard.specs.Hybrid.{prototypeFor, filtersOf, channelFor, firstChannelOf, filtered, joinedTo, hybrid};
 ghost use Rattle.ps_hybrid_analysis.specs.Analysis.{slotAt, answerOf, historyAfter, samplesAfter};
-ghost use Rattle.ps_hybrid_analysis.specs.Stages.{Waves, rootsOf, orderOf, bandAt, Written, Blank, Kept};
+ghost use Rattle.ps_hybrid_analysis.specs.Stages.{Waves, bandAt, Written};
 
 // A channel's slots are 0, before its filters are added.
 fn silence_run(run: &mut [f64], slots: usize)
@@ -34,8 +35,7 @@ fn silence_run(run: &mut [f64], slots: usize)
 
 // The channels of a split band.
 fn silence(samples: &mut [f64], from: usize, to: usize, slots: usize)
-    requires { ⌜ (from ≤ to) × (to ≤ 32) ⌝ }
-    requires { ⌜ (length (now samples) ≡ 2048) × (slots ≤ 32) ⌝ }
+    requires { ⌜ (from ≤ to) × (64 * to ≤ length (now samples)) × (slots ≤ 32) ⌝ }
     ensures { λ _. ⌜ Written slots from to (λ k n. nought) (now (samples .entry)) (now (samples .exit)) ⌝ }
 {
     for k in from..to {
@@ -57,8 +57,8 @@ fn apply(
     samples: &mut [f64],
 )
     requires { ⌜ (prototype ≡ prototypeFor layout p) × ((p < splitOf layout) × (q < filtersOf prototype)) ⌝ }
-    requires { ⌜ ((length (now waves) ≡ 48) × Waves (rootsOf prototype) (orderOf prototype) (now waves)) × (now g ≡ prototypeOf prototype) ⌝ }
-    requires { ⌜ (length (now band) ≡ 88) × ((length (now samples) ≡ 2048) × (slots ≤ 32)) ⌝ }
+    requires { ⌜ ((length (now waves) ≡ 48) × Waves prototype (now waves)) × (now g ≡ prototypeOf prototype) ⌝ }
+    requires { ⌜ (length (now band) ≡ 88) × ((64 * unsplitFromOf layout ≤ length (now samples)) × (slots ≤ 32)) ⌝ }
     ensures { λ _. ⌜ Written slots (channelFor layout p q) (channelFor layout p q + 1)
         (λ k n. sum (sampleAt (now (samples .entry)) n k) (filtered prototype q (cell 44 (now (band .entry))) n))
         (now (samples .entry)) (now (samples .exit)) ⌝ }
@@ -82,9 +82,9 @@ fn apply_all(
     samples: &mut [f64],
 )
     requires { ⌜ (prototype ≡ prototypeFor layout p) × (p < splitOf layout) ⌝ }
-    requires { ⌜ ((length (now waves) ≡ 48) × Waves (rootsOf prototype) (orderOf prototype) (now waves)) × (now g ≡ prototypeOf prototype) ⌝ }
-    requires { ⌜ (length (now band) ≡ 88) × ((length (now samples) ≡ 2048) × (slots ≤ 32)) ⌝ }
-    requires { ⌜ Blank slots (firstChannelOf layout p) (firstChannelOf layout (suc p)) (now samples) ⌝ }
+    requires { ⌜ ((length (now waves) ≡ 48) × Waves prototype (now waves)) × (now g ≡ prototypeOf prototype) ⌝ }
+    requires { ⌜ (length (now band) ≡ 88) × ((64 * unsplitFromOf layout ≤ length (now samples)) × (slots ≤ 32)) ⌝ }
+    requires { ⌜ ((k n : ℕ) → firstChannelOf layout p ≤ k → k < firstChannelOf layout (suc p) → n < slots → sampleAt (now samples) n k ≡ nought) ⌝ }
     ensures { λ _. ⌜ Written slots (firstChannelOf layout p) (firstChannelOf layout (suc p))
         (λ k n. joinedTo layout p (cell 44 (now (band .entry))) n k (filtersOf prototype)) (now (samples .entry)) (now (samples .exit)) ⌝ }
 {
@@ -104,8 +104,8 @@ fn modulate(
     samples: &mut [f64],
 )
     requires { ⌜ (prototype ≡ prototypeFor layout p) × (p < splitOf layout) ⌝ }
-    requires { ⌜ (length (now band) ≡ 88) × ((length (now samples) ≡ 2048) × (slots ≤ 32)) ⌝ }
-    requires { ⌜ Blank slots (firstChannelOf layout p) (firstChannelOf layout (suc p)) (now samples) ⌝ }
+    requires { ⌜ (length (now band) ≡ 88) × ((64 * unsplitFromOf layout ≤ length (now samples)) × (slots ≤ 32)) ⌝ }
+    requires { ⌜ ((k n : ℕ) → firstChannelOf layout p ≤ k → k < firstChannelOf layout (suc p) → n < slots → sampleAt (now samples) n k ≡ nought) ⌝ }
     ensures { λ _. ⌜ Written slots (firstChannelOf layout p) (firstChannelOf layout (suc p))
         (λ k n. joinedTo layout p (cell 44 (now (band .entry))) n k (filtersOf prototype)) (now (samples .entry)) (now (samples .exit)) ⌝ }
 {
@@ -118,7 +118,7 @@ fn modulate(
 // The hybrid channels of QMF band p, from its slots.
 fn filter_band(layout: Layout, p: usize, band: &[f64], slots: usize, samples: &mut [f64])
     requires { ⌜ p < splitOf layout ⌝ }
-    requires { ⌜ (length (now band) ≡ 88) × ((length (now samples) ≡ 2048) × (slots ≤ 32)) ⌝ }
+    requires { ⌜ (length (now band) ≡ 88) × ((64 * unsplitFromOf layout ≤ length (now samples)) × (slots ≤ 32)) ⌝ }
     ensures { λ _. ⌜ Written slots (firstChannelOf layout p) (firstChannelOf layout (suc p))
         (λ k n. joinedTo layout p (cell 44 (now (band .entry))) n k (filtersOf (prototypeFor layout p))) (now (samples .entry)) (now (samples .exit)) ⌝ }
 {
@@ -139,7 +139,7 @@ fn split_band(
     samples: &mut [f64],
 )
     requires { ⌜ (p < splitOf layout) × ((slots ≤ 32) × (length (now history) ≡ 12)) ⌝ }
-    requires { ⌜ (128 * (slots + 6) ≤ length (now input)) × (length (now samples) ≡ 2048) ⌝ }
+    requires { ⌜ (128 * (slots + 6) ≤ length (now input)) × (64 * unsplitFromOf layout ≤ length (now samples)) ⌝ }
     ensures history { λ _. ⌜ now (history .exit) ≡ planar 6 (λ j. bandAt (now (history .entry)) (now (input .entry)) p (slots + j)) ⌝ }
     ensures samples { λ _. ⌜ Written slots (firstChannelOf layout p) (firstChannelOf layout (suc p))
         (λ k n. joinedTo layout p (bandAt (now (history .entry)) (now (input .entry)) p) n k (filtersOf (prototypeFor layout p)))
@@ -159,10 +159,11 @@ fn split_bands(
     slots: usize,
     samples: &mut [f64],
 )
-    requires { ⌜ (slots ≤ 32) × (length (now history) ≡ 60) ⌝ }
-    requires { ⌜ (128 * (slots + 6) ≤ length (now input)) × (length (now samples) ≡ 2048) ⌝ }
-    ensures history { λ _. ⌜ Kept (splitOf layout) (λ p. planar 6 (λ j. bandAt (part (12 * p) 12 (now (history .entry))) (now (input .entry)) p (slots + j)))
-        (now (history .entry)) (now (history .exit)) ⌝ }
+    requires { ⌜ (slots ≤ 32) × (12 * splitOf layout ≤ length (now history)) ⌝ }
+    requires { ⌜ (128 * (slots + 6) ≤ length (now input)) × (64 * unsplitFromOf layout ≤ length (now samples)) ⌝ }
+    ensures history { λ _. ⌜ now (history .exit) ≡
+        rows (λ p. planar 6 (λ j. slotAt layout (now (history .entry)) (now (input .entry)) p (slots + j))) (splitOf layout)
+        ++ drop (12 * splitOf layout) (now (history .entry)) ⌝ }
     ensures samples { λ _. ⌜ Written slots 0 (unsplitFromOf layout)
         (λ k n. hybrid layout (slotAt layout (now (history .entry)) (now (input .entry))) n k) (now (samples .entry)) (now (samples .exit)) ⌝ }
 {
@@ -173,20 +174,26 @@ fn split_bands(
     }
 }
 
-// A frame of the asked slots. Input that is too short is refused, and nothing changes.
+// A frame of the asked slots. Input that is too short is refused, and so are lists without room for the layout; nothing changes then.
 pub fn analyse(
     layout: Layout,
     asked: usize,
-    history: &mut [f64; 60],
+    history: &mut [f64],
     input: &[f64],
-    samples: &mut [f64; 2048],
+    samples: &mut [f64],
 ) -> Answer
-    ensures answer { λ r. ⌜ r ≡ answerOf layout (now (history .entry)) (now (input .entry)) (slotsOf asked) ⌝ }
-    ensures history { λ _. ⌜ now (history .exit) ≡ historyAfter layout (now (history .entry)) (now (input .entry)) (slotsOf asked) ⌝ }
-    ensures samples { λ _. ⌜ now (samples .exit) ≡ samplesAfter layout (now (history .entry)) (now (input .entry)) (slotsOf asked) (now (samples .entry)) ⌝ }
+    ensures answer { λ r. ⌜ r ≡ answerOf layout (now (history .entry)) (now (input .entry)) (now (samples .entry)) (slotsOf asked) ⌝ }
+    ensures history { λ _. ⌜ now (history .exit) ≡ historyAfter layout (now (history .entry)) (now (input .entry)) (now (samples .entry)) (slotsOf asked) ⌝ }
+    ensures samples { λ _. ⌜ now (samples .exit) ≡ samplesAfter layout (now (history .entry)) (now (input .entry)) (now (samples .entry)) (slotsOf asked) ⌝ }
 {
     let slots = borders::slots(asked);
     if input.len() < 128 * (slots + 6) {
+        return Answer::Buffers;
+    }
+    if history.len() < 12 * layout.split() {
+        return Answer::Buffers;
+    }
+    if samples.len() < 64 * layout.unsplit_from() {
         return Answer::Buffers;
     }
     split_bands(layout, history, input, slots, samples);

@@ -3,7 +3,7 @@ use decimals::Prototype;
 use layout::Layout;
 ghost use mathlib.Core.Path.{_≡_};
 ghost use Prim.Native.Nat.{_<_};
-ghost use Rattle.layout.specs.Numbers.{splitOf};
+ghost use Rattle.layout.specs.Numbers.{splitOf, unsplitFromOf};
 ghost use Rattle.standard.specs.Hybrid.{prototypeFor, filtersOf, typeA, channelFor, firstChannelOf};
 ghost use Rattle.ps_hybrid_analysis.specs.Stages.{turnOf};
 
@@ -113,7 +113,7 @@ fn channel_of_71(p: usize, q: usize) -> usize
 // The hybrid channel of filter q of QMF band p.
 pub fn channel(layout: Layout, p: usize, q: usize) -> usize
     requires { ⌜ (p < splitOf layout) × (q < filtersOf (prototypeFor layout p)) ⌝ }
-    ensures { λ r. ⌜ (r ≡ channelFor layout p q) × (r < 32) ⌝ }
+    ensures { λ r. ⌜ (r ≡ channelFor layout p q) × (r < unsplitFromOf layout) ⌝ }
 {
     match layout {
         Layout::Bands20 => channel_of_71(p, q),

@@ -1,10 +1,11 @@
 -- A state that is written and read again is the same state. Assumes nothing.
-use mathlib.Core.Path.{_≡_, refl, sym, ap, _∙_}
-use mathlib.Core.List.{List, [], _∷_, _++_, append-nil}
+use mathlib.Core.Path.{_≡_, refl, sym, ap, ap₂, _∙_}
+use mathlib.Core.List.{List, [], _∷_, _++_, append-nil, append-assoc}
 use mathlib.Core.Bool.{false}
 use Prim.Native.Nat.{ℕ, suc, _+_, _%_, _≤_, _<_}
 use native.Mathlib.Omega.{arith}
-use lib.ListN.{length, take, drop, length-append}
+use lib.IntN.{pos}
+use lib.ListN.{length, take, drop, replicate, length-append}
 use lib.Seq.{take-at, drop-at, drop-drop}
 use lib.Ieee.{Float}
 use Rattle.borders.specs.Borders.{slotsOf}
@@ -15,15 +16,14 @@ use Rattle.layout.specs.declared.Layout.the-variants.{Bands20, Bands34}
 use Rattle.lists.specs.Part.{part}
 use Rattle.ps_data.specs.Indices.{freshLines}
 use Rattle.ps_data.specs.declared.PsLines.{PsLines}
-use Rattle.ps_decorr.specs.declared.PsDecorr.{PsDecorr}
 use Rattle.ps_rows.specs.declared.Row.{Row}
 use Rattle.ps_state.specs.declared.PsDecoder.{PsDecoder}
 use Rattle.ps_state.specs.Shape.{Shaped}
-use Rattle.ps_state.specs.State.{freshDecoder}
-use Rattle.ps_stereo.specs.declared.PsStereo.{PsStereo}
+use Rattle.ps_state.specs.State.{soundLong, soundOf, freshDecoder}
+use Rattle.ps_state.proofs.Lent.{heard, sound-length, decoder-apart, sound-fresh}
 use Rattle.ps_memory.specs.Packed.{packed}
-use Rattle.ps_memory.specs.Place.{rowLong, linesLong, historyLong, decorrLong, stereoLong, soundLong, linesAt, historyAt, decorrAt, stereoAt, numbers, layoutIn, wide, slotsIn, turnIn, headImage, rowPlace, rowOf, rowImage, linesOf, linesImage, decorrIn, decorrImage, stereoOf, stereoImage, soundImage, image, loaded}
-use Rattle.ps_memory.specs.Shape.{Narrow, RowKept, IndicesKept, StateKept}
+use Rattle.ps_memory.specs.Place.{rowLong, linesLong, phasesLong, linesAt, phasesAt, soundAt, numbers, layoutIn, wide, slotsIn, turnIn, headImage, rowPlace, rowOf, rowImage, linesOf, linesImage, smallImage, image, carriedIn, loaded}
+use Rattle.ps_memory.specs.Shape.{RowKept, IndicesKept, StateKept}
 use Rattle.ps_memory.proofs.Narrow.{packed-length, packed-back}
 
 -- ---- the next part of a memory
@@ -110,94 +110,52 @@ lines-back s kept =
       row-back (s .rows .opd) (kept .opd),
     )
 
--- ---- sound
-
-module _ (s : PsDecoder) (shape : Shaped s) where
-  abbrev d : PsDecorr
-  d = s .decorr
-
-  abbrev t : PsStereo
-  t = s .stereo
-
-  decorr-long : length (decorrImage d) ≡ decorrLong
-  unfolding decorrImage
-  decorr-long =
-      omega (
-        arith,
-        length-append (d .delays) (d .long ++ (d .short ++ d .detectors)),
-        length-append (d .long) (d .short ++ d .detectors),
-        length-append (d .short) (d .detectors),
-        shape .delays,
-        shape .long,
-        shape .short,
-        shape .detectors,
-      )
-
-  decorr-back : decorrIn (d .turn) (decorrImage d) ≡ d
-  unfolding decorrIn decorrImage
-  decorr-back =
-      let m = decorrImage d in
-      let delays = next m (d .delays) (d .long ++ (d .short ++ d .detectors)) 0 1456 refl (shape .delays) in
-      let long = next m (d .long) (d .short ++ d .detectors) 1456 336 (delays .then) (shape .long) in
-      let short = next m (d .short) (d .detectors) 1792 58 (long .then) (shape .short) in
-      rw (← delays .here, ← long .here, ← short .here, ← last m (d .detectors) 1850 102 (short .then) (shape .detectors))
-
-  stereo-long : length (stereoImage t) ≡ stereoLong
-  unfolding stereoImage
-  stereo-long = omega (arith, length-append (t .matrices) (packed 68 (t .phases)), shape .matrices, packed-length 68 (t .phases))
-
-  stereo-back : Narrow (t .phases) → stereoOf (stereoImage t) ≡ t
-  unfolding stereoOf stereoImage
-  stereo-back narrow =
-      let m = stereoImage t in
-      let matrices = next m (t .matrices) (packed 68 (t .phases)) 0 272 refl (shape .matrices) in
-      rw (
-        ← matrices .here,
-        ← last m (packed 68 (t .phases)) 272 68 (matrices .then) (packed-length 68 (t .phases)),
-        packed-back 68 (t .phases) (shape .phases) narrow,
-      )
-
-  sound-long : length (soundImage (s .history) d t) ≡ soundLong
-  unfolding soundImage
-  sound-long =
-      omega (arith, length-append (s .history) (decorrImage d ++ stereoImage t), length-append (decorrImage d) (stereoImage t), shape .history, decorr-long, stereo-long)
-
-  pub image-length : length (image s) ≡ numbers
-  unfolding image headImage
-  image-length = omega (arith, length-append (linesImage (s .lines)) (soundImage (s .history) d t), lines-long (s .lines), sound-long)
-
 -- ---- a whole state
 
-module _ (s : PsDecoder) (kept : StateKept s) where
-  pub load-image : loaded (image s) ≡ s
-  unfolding loaded image headImage soundImage
-  load-image =
-      let shape = kept .shape in
+module _ (s : PsDecoder) where
+  -- what stands behind the single numbers
+  abbrev lines : List Float
+  lines = linesImage (s .lines)
+
+  abbrev phases : List Float
+  phases = packed phasesLong (s .stereo .phases)
+
+  pub image-length : Shaped s → length (image s) ≡ numbers
+  unfolding image smallImage headImage
+  image-length shape =
+      omega (
+        arith,
+        length-append (lines ++ phases) (soundOf s),
+        length-append lines phases,
+        lines-long (s .lines),
+        packed-length phasesLong (s .stereo .phases),
+        sound-length s (heard shape),
+      )
+
+  pub load-image : StateKept s → loaded (image s) ≡ s
+  unfolding loaded carriedIn image smallImage headImage
+  load-image kept =
       let m = image s in
-      let h = s .history in
-      let d = decorrImage (s .decorr) in
-      let t = stereoImage (s .stereo) in
-      let lines = next m (linesImage (s .lines)) (h ++ (d ++ t)) linesAt linesLong refl (lines-long (s .lines)) in
-      let history = next m h (d ++ t) historyAt historyLong (lines .then) (shape .history) in
-      let decorr = next m d t decorrAt decorrLong (history .then) (decorr-long s shape) in
+      let shape = heard (kept .shape) in
+      let its-lines = next m lines (phases ++ soundOf s) linesAt linesLong (append-assoc lines phases (soundOf s)) (lines-long (s .lines)) in
+      let its-phases = next m phases (soundOf s) phasesAt phasesLong (its-lines .then) (packed-length phasesLong (s .stereo .phases)) in
       rw (
-        ← lines .here,
-        ← history .here,
-        ← decorr .here,
-        ← last m t stereoAt stereoLong (decorr .then) (stereo-long s shape),
+        ← last m (soundOf s) soundAt soundLong (its-phases .then) (sound-length s shape),
+        ← its-lines .here,
+        ← its-phases .here,
         lines-back (s .lines) (kept .rows),
+        packed-back phasesLong (s .stereo .phases) (kept .shape .phases) (kept .phases),
         turn-back (s .decorr .turn) (kept .turned),
-        decorr-back s shape,
-        stereo-back s shape (kept .phases),
         layout-back (s .layout),
         flag-back (s .cued),
         slots-back (s .asked) (kept .fewest) (kept .most),
       )
+      (decoder-apart s shape)
 
 -- the slots are kept as they act
 pub image-fresh : (asked : ℕ) → image (freshDecoder asked) ≡ image (freshDecoder (slotsOf asked))
-unfolding image headImage
+unfolding image smallImage headImage
 image-fresh asked =
     let same : slotsOf asked ≡ slotsOf (slotsOf asked) = omega arith in
-    let rest = keptNumber (0 % 420) ∷ linesImage freshLines ++ soundImage (freshDecoder 0 .history) (freshDecoder 0 .decorr) (freshDecoder 0 .stereo) in
-    ap (λ (n : ℕ). keptFlag (wide Bands20) ∷ keptFlag false ∷ keptNumber n ∷ rest) same
+    ap₂ (λ (n : ℕ) (t : List Float). keptFlag (wide Bands20) ∷ keptFlag false ∷ keptNumber n ∷ keptNumber (0 % 420) ∷ (linesImage freshLines ++ packed phasesLong (replicate 136 (pos 0))) ++ t)
+    same (sound-fresh asked ∙ sym (sound-fresh (slotsOf asked)))

@@ -11,11 +11,11 @@ use Rattle.ps_state.specs.State.{freshDecoder, coreOf, playingOf, stored}
 use Rattle.ps_state.proofs.Readied.{shaped-readied}
 use Rattle.ps_state.proofs.Stored.{shaped-fresh, shaped-stored}
 use Rattle.ps_stereo.specs.State.{switchedTo}
-use Rattle.standard.specs.Core.{sameLayout, Core}
+use Rattle.standard.specs.Core.{sameLayout}
 use Rattle.ps_memory.specs.Shape.{Narrow, StateKept}
 use Rattle.ps_memory.proofs.Mapped.{phases-narrow}
 use Rattle.ps_memory.proofs.Narrow.{either, narrow-zeros}
-use Rattle.ps_memory.proofs.Phases.{SmallCue, SmallKept, next-small, kept-in-small, stereo-narrow}
+use Rattle.ps_memory.proofs.Phases.{SmallCue, SmallKept, next-small, kept-in-small, held-narrow}
 use Rattle.ps_memory.proofs.Rows.{none-kept, line-kept}
 
 pub fresh-kept : (asked : ℕ) → 6 ≤ asked → asked ≤ 32 → StateKept (freshDecoder asked)
@@ -57,7 +57,7 @@ module _ (s : PsDecoder) (c : Call) (kept : StateKept s) where
 
   core-small : (b : ℕ) → SmallKept (coreOf s .kept b)
   unfolding coreOf
-  core-small b = kept-in-small (s .stereo) (kept .phases) b
+  core-small b = kept-in-small (s .stereo .matrices) (s .stereo .phases) (kept .phases) b
 
   abbrev made : PsDecoder
   made = readied (layout (playingOf s) c) (c .edge) s
@@ -74,7 +74,7 @@ module _ (s : PsDecoder) (c : Call) (kept : StateKept s) where
         shape = shaped-stored made next (shaped-readied s (layout (playingOf s) c) (c .edge) (kept .shape));
         rows = line-kept (s .lines) (kept .rows) (c .line) .rows;
         phases =
-            stereo-narrow (next .core .layout) (next .core .kept) (made .stereo)
+            held-narrow (next .core .layout) (next .core .kept) (made .stereo .phases)
             (next-small (coreOf s) core-small (frameOf (playingOf s) c) cue-small)
             (readied-phases s (layout (playingOf s) c) (c .edge) (kept .phases));
       }

@@ -1,57 +1,23 @@
 -- Parts that are stored from the last to the first leave the image. Assumes nothing.
-use mathlib.Core.Path.{_≡_, refl, sym, ap, ap₂, _∙_}
+use mathlib.Core.Path.{_≡_, sym, ap, ap₂, _∙_}
 use mathlib.Core.List.{List, [], _∷_, _++_, append-nil}
-use Prim.Native.Nat.{ℕ, zero, _+_, _≤_, _<_}
+use Prim.Native.Nat.{ℕ, _+_}
 use native.Mathlib.Omega.{arith}
-use lib.ListN.{length, take, drop, set}
+use lib.ListN.{length, drop, set, replicate}
 use lib.Seq.{sets, sets-eq, drop-length}
 use lib.Ieee.{Float}
 use Rattle.exact_numbers.specs.Numbers.{keptNumber, keptFlag}
 use Rattle.lists.specs.Part.{part, put}
-use Rattle.lists.proofs.Parts.{part-length, placed, tail-back}
+use Rattle.lists.proofs.Parts.{part-length}
 use Rattle.ps_data.specs.declared.PsLines.{PsLines}
-use Rattle.ps_decorr.specs.declared.PsDecorr.{PsDecorr}
 use Rattle.ps_rows.specs.declared.Row.{Row}
-use Rattle.ps_state.specs.declared.PsDecoder.{PsDecoder}
-use Rattle.ps_stereo.specs.declared.PsStereo.{PsStereo}
+use Rattle.ps_state.specs.declared.PsCarried.{PsCarried}
+use Rattle.ps_state.specs.State.{soundLong, carriedOf, freshDecoder}
+use Rattle.ps_state.proofs.Laid.{piece, laid, headed, three-laid}
+use Rattle.ps_state.proofs.Lent.{sound-fresh}
+use Rattle.standard.specs.Numbers.{zero}
 use Rattle.ps_memory.specs.Packed.{packed}
-use Rattle.ps_memory.specs.Place.{headLong, rowLong, linesLong, historyLong, decorrLong, stereoLong, soundLong, linesAt, historyAt, numbers, headImage, rowPlace, rowImage, linesImage, decorrImage, stereoImage, soundImage, image}
-
--- ---- any parts
-
--- a part to store, and how many places are its
-record Piece : Type 0 where
-  long : ℕ
-  now : List Float
-
-abbrev piece : ℕ → List Float → Piece
-piece n q = record { long = n; now = q }
-
-abbrev total : List Piece → ℕ
-total [] = 0
-total (p ∷ ps) = p .long + total ps
-
-abbrev joined : Piece → List Piece → List Float
-joined p [] = p .now
-joined p (q ∷ ps) = p .now ++ joined q ps
-
--- from place a on, the last first
-abbrev puts : ℕ → List Piece → List Float → List Float
-puts a [] m = m
-puts a (p ∷ ps) m = put a (p .long) (puts (a + p .long) ps m) (p .now)
-
-laid : (a : ℕ) (p : Piece) (ps : List Piece) (m : List Float) → length m ≡ a + (p .long + total ps) → puts a (p ∷ ps) m ≡ take a m ++ joined p ps
-laid a p [] m l = tail-back a (p .long) m (p .now) (omega arith)
-laid a p (q ∷ ps) m l =
-    placed m _ (joined q ps) (p .now) a (p .long) (a + p .long) (laid (a + p .long) q ps m (omega arith)) refl (omega arith)
-
--- a single number before them, stored last
-headed : (v : Float) (p : Piece) (ps : List Piece) (m : List Float) → length m ≡ 1 + (p .long + total ps) → set (puts 1 (p ∷ ps) m) 0 v ≡ v ∷ joined p ps
-headed v p ps m l = ap (λ (t : List Float). set t 0 v) (laid 1 p ps m l) ∙ first m (omega arith)
-  where
-    first : (n : List Float) → 0 < length n → set (take 1 n ++ joined p ps) 0 v ≡ v ∷ joined p ps
-    first [] h = absurd (omega arith)
-    first (x ∷ n) h = refl
+use Rattle.ps_memory.specs.Place.{headLong, rowLong, linesLong, phasesLong, linesAt, phasesAt, soundAt, numbers, headImage, rowPlace, rowImage, linesImage, smallImage, image}
 
 -- as many single numbers as there are places
 pub all-set : (vs m : List Float) → length m ≡ length vs → sets m 0 vs ≡ vs
@@ -73,25 +39,18 @@ unfolding linesImage
 lines-laid s m a b c d v l ev ea eb ec ed =
     headed v (piece rowLong a) (piece rowLong b ∷ piece rowLong c ∷ piece rowLong d ∷ []) m l ∙ rw (ev, ea, eb, ec, ed)
 
-pub decorr-laid : (s : PsDecorr) (m a b c d : List Float) → length m ≡ decorrLong → a ≡ s .delays → b ≡ s .long → c ≡ s .short → d ≡ s .detectors
-    → put 0 1456 (put 1456 336 (put 1792 58 (put 1850 102 m d) c) b) a ≡ decorrImage s
-unfolding decorrImage
-decorr-laid s m a b c d l ea eb ec ed = laid 0 (piece 1456 a) (piece 336 b ∷ piece 58 c ∷ piece 102 d ∷ []) m l ∙ rw (ea, eb, ec, ed)
+pub small-laid : (s : PsCarried) (m a b c : List Float) → length m ≡ soundAt → a ≡ headImage (s .layout) (s .cued) (s .asked) (s .turn)
+    → b ≡ linesImage (s .lines) → c ≡ packed (length (part phasesAt phasesLong m)) (s .phases)
+    → put 0 headLong (put linesAt linesLong (put phasesAt phasesLong m c) b) a ≡ smallImage s
+unfolding smallImage
+small-laid s m a b c l ea eb ec =
+    three-laid headLong linesLong phasesLong m a b c l ea eb (ec ∙ ap (λ (n : ℕ). packed n (s .phases)) (part-length phasesAt phasesLong m (omega arith)))
 
-pub stereo-laid : (s : PsStereo) (m a b : List Float) → length m ≡ stereoLong → a ≡ s .matrices → b ≡ packed (length (part 272 68 m)) (s .phases)
-    → put 0 272 (put 272 68 m b) a ≡ stereoImage s
-unfolding stereoImage
-stereo-laid s m a b l ea eb = laid 0 (piece 272 a) (piece 68 b ∷ []) m l ∙ rw (ea, eb, part-length 272 68 m (omega arith))
-
-pub sound-laid : (history : List Float) (decorr : PsDecorr) (stereo : PsStereo) (m a b c : List Float) → length m ≡ soundLong
-    → a ≡ history → b ≡ decorrImage decorr → c ≡ stereoImage stereo
-    → put 0 historyLong (put historyLong decorrLong (put (historyLong + decorrLong) stereoLong m c) b) a ≡ soundImage history decorr stereo
-unfolding soundImage
-sound-laid history decorr stereo m a b c l ea eb ec =
-    laid 0 (piece historyLong a) (piece decorrLong b ∷ piece stereoLong c ∷ []) m l ∙ rw (ea, eb, ec)
-
-pub whole-laid : (s : PsDecoder) (m a b c : List Float) → length m ≡ numbers → a ≡ headImage (s .layout) (s .cued) (s .asked) (s .decorr .turn)
-    → b ≡ linesImage (s .lines) → c ≡ soundImage (s .history) (s .decorr) (s .stereo)
-    → put 0 headLong (put linesAt linesLong (put historyAt soundLong m c) b) a ≡ image s
+-- what is small in a fresh state, before its silent sound
+pub fresh-laid : (asked : ℕ) (s : PsCarried) (m q z : List Float) → length m ≡ numbers → s ≡ carriedOf (freshDecoder asked) → q ≡ smallImage s
+    → z ≡ replicate (length (part soundAt soundLong m)) zero → put 0 soundAt (put soundAt soundLong m z) q ≡ image (freshDecoder asked)
 unfolding image
-whole-laid s m a b c l ea eb ec = laid 0 (piece headLong a) (piece linesLong b ∷ piece soundLong c ∷ []) m l ∙ rw (ea, eb, ec)
+fresh-laid asked s m q z l es eq ez =
+    laid 0 (piece soundAt q) (piece soundLong z ∷ []) m l
+    ∙ ap₂ (λ (a b : List Float). a ++ b) (eq ∙ ap smallImage es)
+    (ez ∙ ap (λ (n : ℕ). replicate n zero) (part-length soundAt soundLong m (omega arith)) ∙ sym (sound-fresh asked))

@@ -8,7 +8,7 @@ use native.Mathlib.Omega.{arith}
 use lib.IntN.{ℤ, pos}
 use lib.Ieee.{nan}
 use lib.ListN.{length, take, drop, getD, replicate}
-use lib.Seq.{drop-cons}
+use lib.Seq.{drop-cons, getD-drop}
 use lib.Signed.{mag}
 use Rattle.exact_numbers.specs.Numbers.{keptPair}
 use Rattle.exact_numbers.proofs.Back.{first-back, second-back}
@@ -53,6 +53,9 @@ pub narrow-take : (n : ℕ) (v : List ℤ) → Narrow v → Narrow (take n v)
 narrow-take zero v h = narrow-none
 narrow-take (suc n) [] h = narrow-none
 narrow-take (suc n) (z ∷ v) h = narrow-more z (take n v) (h .at 0) (narrow-take n v (record { at = λ i. h .at (suc i) }))
+
+pub narrow-drop : (n : ℕ) (v : List ℤ) → Narrow v → Narrow (drop n v)
+narrow-drop n v h = record { at = λ i. rw (getD-drop n v i (pos 0)) (h .at (n + i)) }
 
 -- ---- what is packed
 

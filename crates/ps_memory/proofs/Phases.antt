@@ -1,23 +1,21 @@
 -- The history of phase indices holds small numbers after every frame. Assumes nothing.
 use mathlib.Core.Bool.{Bool, true, false}
-use mathlib.Core.List.{[], _∷_}
-use Prim.Native.Nat.{ℕ, zero, suc, _+_, _<_}
+use mathlib.Core.List.{List}
+use Prim.Native.Nat.{ℕ, zero, suc, _+_, _*_, _<_}
 use native.Mathlib.Omega.{arith}
-use lib.Dec.{ltb}
+use lib.Ieee.{Float}
 use lib.IntN.{ℤ}
 use lib.Signed.{mag}
 use Rattle.layout.specs.declared.Layout.{Layout}
 use Rattle.layout.specs.Numbers.{bandsOf}
-use Rattle.lists.specs.Rows.{tabulate}
-use Rattle.planar.specs.Cells.{overwritten}
-use Rattle.ps_stereo.specs.declared.PsStereo.{PsStereo}
-use Rattle.ps_stereo.specs.Kept.{keptIn, stereoWith}
+use Rattle.planar.specs.Frame.{phaseNumbers}
+use Rattle.ps_stereo.specs.Kept.{keptIn, phasesWith}
 use Rattle.standard.specs.declared.Modes.{Modes}
 use Rattle.standard.specs.Core.{Core, Frame, remapped, switched, ready, keptThen, after, next, sameLayout, envelopes}
 use Rattle.standard.specs.Interpolation.{keptAt}
 use Rattle.standard.specs.Mixing.{Cue, Phases, Kept, noPhases, phasesAfter, keptAfter}
 use Rattle.ps_memory.specs.Shape.{Narrow}
-use Rattle.ps_memory.proofs.Narrow.{either, narrow-none, narrow-more, narrow-append, narrow-rows}
+use Rattle.ps_memory.proofs.Narrow.{either, narrow-none, narrow-more, narrow-append, narrow-rows, narrow-drop}
 
 pub record SmallPhases (p : Phases) : Type 0 where
   pub oldest : mag (p .oldest) < 128
@@ -69,27 +67,20 @@ module _ (s : Core) (small : (b : ℕ) → SmallKept (s .kept b)) where
 
 -- ---- the numbers that hold it
 
-pub kept-in-small : (s : PsStereo) → Narrow (s .phases) → (b : ℕ) → SmallKept (keptIn s b)
-kept-in-small s n b =
+pub kept-in-small : (matrices : List Float) (phases : List ℤ) → Narrow phases → (b : ℕ) → SmallKept (keptIn matrices phases b)
+kept-in-small matrices phases n b =
     record {
-      ipd = record { oldest = n .at b; previous = n .at (34 + b) };
-      opd = record { oldest = n .at (68 + b); previous = n .at (102 + b) };
+      ipd = record { oldest = n .at (4 * b); previous = n .at (4 * b + 1) };
+      opd = record { oldest = n .at (4 * b + 2); previous = n .at (4 * b + 3) };
     }
 
-tabulate-narrow : (f : ℕ → ℤ) (n : ℕ) → ((i : ℕ) → mag (f i) < 128) → Narrow (tabulate f n)
-tabulate-narrow f n h = narrow-rows (λ i. f i ∷ []) n (λ k. narrow-more (f k) [] (h k) narrow-none)
+numbers-narrow : (k : Kept) → SmallKept k → Narrow (phaseNumbers (k .ipd) (k .opd))
+numbers-narrow k s =
+    narrow-more (k .ipd .oldest) _ (s .ipd .oldest)
+    (narrow-more (k .ipd .previous) _ (s .ipd .previous)
+    (narrow-more (k .opd .oldest) _ (s .opd .oldest) (narrow-more (k .opd .previous) _ (s .opd .previous) narrow-none)))
 
-module _ (l : Layout) (kept : ℕ → Kept) (old : PsStereo) (small : (b : ℕ) → SmallKept (kept b)) (narrow : Narrow (old .phases)) where
-  abbrev new : ℕ → Kept
-  new = overwritten (bandsOf l) kept (keptIn old)
-
-  new-small : (b : ℕ) → SmallKept (new b)
-  new-small b = either SmallKept (ltb b (bandsOf l)) (kept b) (keptIn old b) (small b) (kept-in-small old narrow b)
-
-  pub stereo-narrow : Narrow (stereoWith l kept old .phases)
-  unfolding stereoWith
-  stereo-narrow =
-      narrow-append (tabulate (λ b. new b .ipd .oldest) 34) _ (tabulate-narrow _ 34 (λ b. new-small b .ipd .oldest))
-      (narrow-append (tabulate (λ b. new b .ipd .previous) 34) _ (tabulate-narrow _ 34 (λ b. new-small b .ipd .previous))
-      (narrow-append (tabulate (λ b. new b .opd .oldest) 34) _ (tabulate-narrow _ 34 (λ b. new-small b .opd .oldest))
-      (tabulate-narrow _ 34 (λ b. new-small b .opd .previous))))
+pub held-narrow : (l : Layout) (kept : ℕ → Kept) (old : List ℤ) → ((b : ℕ) → SmallKept (kept b)) → Narrow old → Narrow (phasesWith l kept old)
+unfolding phasesWith
+held-narrow l kept old small narrow =
+    narrow-append _ _ (narrow-rows _ (bandsOf l) (λ b. numbers-narrow (kept b) (small b))) (narrow-drop (4 * bandsOf l) old narrow)

@@ -4,21 +4,18 @@ use Prim.Native.Nat.{ℕ, _+_, _*_, _%_}
 use mathlib.Core.List.{List, [], _∷_, _++_}
 use mathlib.Core.Bool.{Bool, true, false, cond}
 use lib.Dec.{eqb}
-use lib.ListN.{length, getD}
+use lib.ListN.{length, getD, drop}
 use lib.Ieee.{Float, nan}
 use Rattle.borders.specs.Borders.{slotsOf}
 use Rattle.exact_numbers.specs.Numbers.{keptNumber, numberIn, keptFlag, flagIn}
 use Rattle.layout.specs.declared.Layout.{Layout}
 use Rattle.layout.specs.declared.Layout.the-variants.{Bands20, Bands34}
 use Rattle.lists.specs.Part.{part}
-use Rattle.ps_data.specs.declared.PsIndexState.{PsIndexState}
 use Rattle.ps_data.specs.declared.PsLines.{PsLines}
-use Rattle.ps_decorr.specs.declared.PsDecorr.{PsDecorr}
 use Rattle.ps_rows.specs.declared.Row.{Row}
 use Rattle.ps_state.specs.declared.PsCarried.{PsCarried}
 use Rattle.ps_state.specs.declared.PsDecoder.{PsDecoder}
-use Rattle.ps_state.specs.State.{carriedOf, decoderOf, freshDecoder}
-use Rattle.ps_stereo.specs.declared.PsStereo.{PsStereo}
+use Rattle.ps_state.specs.State.{soundLong, carriedOf, soundOf, decoderIn, freshDecoder}
 use Rattle.ps_memory.specs.Packed.{packed, unpacked}
 
 -- ---- places
@@ -35,36 +32,22 @@ rowLong = 18
 abbrev pub linesLong : ℕ
 linesLong = 1 + 4 * rowLong
 
--- the hybrid filters' history
-abbrev pub historyLong : ℕ
-historyLong = 60
-
--- de-correlation: all-pass channels at 0, long delays at 1456, short ones at 1792, detectors at 1850
-abbrev pub decorrLong : ℕ
-decorrLong = 1952
-
--- mixing: coefficients at 0, phases at 272 in 68 floats
-abbrev pub stereoLong : ℕ
-stereoLong = 340
-
-abbrev pub soundLong : ℕ
-soundLong = historyLong + decorrLong + stereoLong
+-- the phase indices, two to a float
+abbrev pub phasesLong : ℕ
+phasesLong = 68
 
 abbrev pub linesAt : ℕ
 linesAt = headLong
 
-abbrev pub historyAt : ℕ
-historyAt = linesAt + linesLong
+abbrev pub phasesAt : ℕ
+phasesAt = linesAt + linesLong
 
-abbrev pub decorrAt : ℕ
-decorrAt = historyAt + historyLong
-
-abbrev pub stereoAt : ℕ
-stereoAt = decorrAt + decorrLong
+abbrev pub soundAt : ℕ
+soundAt = phasesAt + phasesLong
 
 -- how many numbers a state takes
 abbrev pub numbers : ℕ
-numbers = stereoAt + stereoLong
+numbers = soundAt + soundLong
 
 -- ---- single numbers
 
@@ -112,50 +95,36 @@ unfoldable pub linesImage : PsLines → List Float
 linesImage s =
     keptFlag (s .configured) ∷ (rowImage (s .rows .iid) ++ (rowImage (s .rows .icc) ++ (rowImage (s .rows .ipd) ++ rowImage (s .rows .opd))))
 
--- ---- sound
-
--- the turn stands in the head
-unfoldable pub decorrIn : ℕ → List Float → PsDecorr
-decorrIn turn m = record { turn = turn; delays = part 0 1456 m; long = part 1456 336 m; short = part 1792 58 m; detectors = part 1850 102 m }
-
-unfoldable pub decorrImage : PsDecorr → List Float
-decorrImage s = s .delays ++ (s .long ++ (s .short ++ s .detectors))
-
-unfoldable pub stereoOf : List Float → PsStereo
-stereoOf m = record { matrices = part 0 272 m; phases = unpacked 68 (part 272 68 m) }
-
-unfoldable pub stereoImage : PsStereo → List Float
-stereoImage s = s .matrices ++ packed 68 (s .phases)
-
-unfoldable pub soundImage : List Float → PsDecorr → PsStereo → List Float
-soundImage history decorr stereo = history ++ (decorrImage decorr ++ stereoImage stereo)
-
 -- ---- a whole state
 
--- the memory of a state
-unfoldable pub image : PsDecoder → List Float
-image s =
-    headImage (s .layout) (s .cued) (s .asked) (s .decorr .turn) ++ (linesImage (s .lines) ++ soundImage (s .history) (s .decorr) (s .stereo))
+-- what is small in a state, and the memory of the state: behind it stands the sound as it is
+unfoldable pub smallImage : PsCarried → List Float
+smallImage s = headImage (s .layout) (s .cued) (s .asked) (s .turn) ++ (linesImage (s .lines) ++ packed phasesLong (s .phases))
 
--- the state that a memory holds
-unfoldable pub loaded : List Float → PsDecoder
-loaded m =
+unfoldable pub image : PsDecoder → List Float
+image s = smallImage (carriedOf s) ++ soundOf s
+
+-- what is small in the state that a memory holds, and that state
+unfoldable pub carriedIn : List Float → PsCarried
+carriedIn m =
     record {
       asked = slotsIn (getD m 2 nan);
       layout = layoutIn (getD m 0 nan);
       cued = flagIn (getD m 1 nan);
       lines = linesOf (part linesAt linesLong m);
-      history = part historyAt historyLong m;
-      decorr = decorrIn (turnIn (getD m 3 nan)) (part decorrAt decorrLong m);
-      stereo = stereoOf (part stereoAt stereoLong m);
+      phases = unpacked phasesLong (part phasesAt phasesLong m);
+      turn = turnIn (getD m 3 nan);
     }
 
-abbrev pub freshCarried : PsCarried
-freshCarried = carriedOf (freshDecoder 32)
+unfoldable pub loaded : List Float → PsDecoder
+loaded m = decoderIn (carriedIn m) (part soundAt soundLong m)
 
--- loaded over five arrays of sound: a memory of another length leaves them, with what is small in a fresh decoder, and is left as it is
-unfoldable pub loadOver : List Float → List Float → List Float → List Float → List Float → List Float → PsDecoder
-loadOver m history delays long short detectors = cond (eqb (length m) numbers) (loaded m) (decoderOf freshCarried history delays long short detectors)
+-- a memory of another length reads as what is small in a fresh decoder, and is left as it is
+unfoldable pub loadedFrom : List Float → PsCarried
+loadedFrom m = cond (eqb (length m) numbers) (carriedIn m) (carriedOf (freshDecoder 32))
 
-unfoldable pub storedIn : PsDecoder → List Float → List Float
-storedIn s m = cond (eqb (length m) numbers) (image s) m
+unfoldable pub storedIn : PsCarried → List Float → List Float
+storedIn s m = cond (eqb (length m) numbers) (smallImage s ++ drop soundAt m) m
+
+unfoldable pub startedIn : ℕ → List Float → List Float
+startedIn asked m = cond (eqb (length m) numbers) (image (freshDecoder asked)) m

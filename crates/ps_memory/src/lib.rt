@@ -1,24 +1,21 @@
 // A decoder's whole state in lent memory, a run of floats, between calls. Any memory of the right length is a state.
 mod lines;
-mod sound;
 
 use layout::Layout;
 use ps_state::PsCarried;
 ghost use mathlib.Core.Path.{_≡_};
-ghost use lib.ListN.{length};
-ghost use Rattle.ps_state.specs.State.{carriedOf, decoderOf};
-ghost use Rattle.ps_memory.specs.Place.{numbers, headLong, layoutIn, wide, slotsIn, turnIn, headImage, freshCarried, loaded, image, loadOver, storedIn};
+ghost use lib.ListN.{length, replicate};
+ghost use Rattle.standard.specs.Numbers.{zero};
+ghost use Rattle.ps_memory.specs.Place.{numbers, headLong, soundAt, layoutIn, wide, slotsIn, turnIn, headImage, smallImage, carriedIn, loadedFrom, storedIn, startedIn};
 
-// The places of specs/Place: layout, cued, slots and turn, then what the lines have left, then the sound.
+// The places of specs/Place: layout, cued, slots and turn, then what the lines have left, the phase indices, two to a float, and the sound.
 const LINES: usize = 4;
 
-const HISTORY: usize = LINES + lines::LONG;
+const PHASES: usize = LINES + lines::LONG;
 
-const DECORR: usize = HISTORY + sound::HISTORY_LONG;
+pub const SOUND: usize = PHASES + 68;
 
-const STEREO: usize = DECORR + sound::DECORR_LONG;
-
-pub const NUMBERS: usize = STEREO + sound::STEREO_LONG;
+pub const NUMBERS: usize = SOUND + ps_state::SOUND;
 
 // How many numbers a state takes.
 pub fn numbers() -> usize
@@ -69,104 +66,73 @@ fn turn_in(x: f64) -> usize
     exact_numbers::number(x, 419) as usize
 }
 
-// What is small in the state that a memory holds, and in a fresh one.
-fn load_carried(memory: &[f64]) -> PsCarried
+// What is small in the state that a memory holds.
+fn load_small(memory: &[f64]) -> PsCarried
     requires { ⌜ length (now memory) ≡ numbers ⌝ }
-    ensures { λ r. ⌜ r ≡ carriedOf (loaded (now (memory .entry))) ⌝ }
+    ensures { λ r. ⌜ r ≡ carriedIn (now (memory .entry)) ⌝ }
 {
+    let mut phases = [0i8; 136];
+    lines::unpack(&memory[PHASES..SOUND], &mut phases);
     PsCarried {
         asked: slots_in(memory[2]),
         layout: layout_in(memory[0]),
         cued: exact_numbers::flag(memory[1]),
-        lines: lines::load(&memory[LINES..HISTORY]),
-        stereo: sound::load_stereo(&memory[STEREO..NUMBERS]),
+        lines: lines::load(&memory[LINES..PHASES]),
+        phases: phases,
         turn: turn_in(memory[3]),
     }
 }
 
-fn fresh_carried() -> PsCarried
-    ensures { λ r. ⌜ r ≡ freshCarried ⌝ }
-{
-    PsCarried {
-        asked: 32,
-        layout: Layout::Bands20,
-        cued: false,
-        lines: ps_data::fresh(),
-        stereo: ps_stereo::fresh(),
-        turn: 0,
-    }
-}
-
-// The state that a memory holds. A memory of another length gives what is small in a fresh one, and leaves the arrays as they are.
-pub fn load(
-    memory: &[f64],
-    history: &mut [f64; 60],
-    delays: &mut [f64; 1456],
-    long: &mut [f64; 336],
-    short: &mut [f64; 58],
-    detectors: &mut [f64; 102],
-) -> PsCarried
-    ensures { λ r. ⌜ decoderOf r (now (history .exit)) (now (delays .exit)) (now (long .exit)) (now (short .exit)) (now (detectors .exit))
-        ≡ loadOver (now (memory .entry)) (now (history .entry)) (now (delays .entry)) (now (long .entry)) (now (short .entry)) (now (detectors .entry)) ⌝ }
+// The same, and that of a fresh state for a memory of another length. The sound is used where it lies.
+pub fn load(memory: &[f64]) -> PsCarried
+    ensures { λ r. ⌜ r ≡ loadedFrom (now (memory .entry)) ⌝ }
 {
     if memory.len() != NUMBERS {
-        return fresh_carried();
+        return ps_state::fresh_carried(32);
     }
-    sound::copy(&memory[HISTORY..DECORR], history);
-    sound::load_decorr(&memory[DECORR..STEREO], delays, long, short, detectors);
-    load_carried(memory)
+    load_small(memory)
 }
 
-fn store_whole(
-    carried: PsCarried,
-    history: &[f64; 60],
-    delays: &[f64; 1456],
-    long: &[f64; 336],
-    short: &[f64; 58],
-    detectors: &[f64; 102],
-    memory: &mut [f64],
-)
-    requires { ⌜ length (now memory) ≡ numbers ⌝ }
-    ensures { λ _. ⌜ now (memory .exit)
-        ≡ image (decoderOf carried (now (history .entry)) (now (delays .entry)) (now (long .entry)) (now (short .entry)) (now (detectors .entry))) ⌝ }
+fn store_small(carried: PsCarried, to: &mut [f64])
+    requires { ⌜ length (now to) ≡ soundAt ⌝ }
+    ensures { λ _. ⌜ now (to .exit) ≡ smallImage carried ⌝ }
 {
-    let stereo = carried.stereo;
-    sound::store_sound(
-        history,
-        delays,
-        long,
-        short,
-        detectors,
-        stereo,
-        &mut memory[HISTORY..NUMBERS],
-    );
+    lines::pack(&carried.phases, &mut to[PHASES..SOUND]);
     let lines = carried.lines;
-    lines::store(lines, &mut memory[LINES..HISTORY]);
+    lines::store(lines, &mut to[LINES..PHASES]);
     let layout = carried.layout;
     store_head(
         layout,
         carried.cued,
         carried.asked,
         carried.turn,
-        &mut memory[0..LINES],
+        &mut to[0..LINES],
     );
 }
 
-// Makes memory that of a state; a memory of another length is left as it is.
-pub fn store(
-    carried: PsCarried,
-    history: &[f64; 60],
-    delays: &[f64; 1456],
-    long: &[f64; 336],
-    short: &[f64; 58],
-    detectors: &[f64; 102],
-    memory: &mut [f64],
-)
-    ensures { λ _. ⌜ now (memory .exit)
-        ≡ storedIn (decoderOf carried (now (history .entry)) (now (delays .entry)) (now (long .entry)) (now (short .entry)) (now (detectors .entry)))
-        (now (memory .entry)) ⌝ }
+// Makes a memory that of a state whose sound it has; a memory of another length is left as it is.
+pub fn store(carried: PsCarried, memory: &mut [f64])
+    ensures { λ _. ⌜ now (memory .exit) ≡ storedIn carried (now (memory .entry)) ⌝ }
 {
     if memory.len() == NUMBERS {
-        store_whole(carried, history, delays, long, short, detectors, memory);
+        store_small(carried, &mut memory[0..SOUND]);
+    }
+}
+
+fn silence(xs: &mut [f64])
+    ensures { λ _. ⌜ now (xs .exit) ≡ replicate (length (now (xs .entry))) zero ⌝ }
+{
+    for i in 0..xs.len() {
+        xs[i] = 0.0;
+    }
+}
+
+// Makes a memory that of a fresh decoder for an asked number of slots, whatever it held; one of another length is left as it is.
+pub fn start(asked: usize, memory: &mut [f64])
+    ensures { λ _. ⌜ now (memory .exit) ≡ startedIn asked (now (memory .entry)) ⌝ }
+{
+    if memory.len() == NUMBERS {
+        silence(&mut memory[SOUND..NUMBERS]);
+        store_small(ps_state::fresh_carried(asked), &mut memory[0..SOUND]);
     }
 }

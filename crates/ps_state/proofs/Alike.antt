@@ -6,7 +6,6 @@ use mathlib.Core.Bool.{Bool, true, false, cond}
 use mathlib.Core.List.{List, [], _∷_, _++_}
 use borrow.Author.Tests.{ltb-true, lt-ltb, le-ltb}
 use lib.Dec.{ltb}
-use lib.IntN.{ℤ}
 use lib.Ieee.{Float, nan}
 use lib.ListN.{length, getD}
 use Rattle.calls.specs.Call.{Playing}
@@ -17,16 +16,17 @@ use Rattle.layout.specs.declared.Layout.the-variants.{Bands20, Bands34}
 use Rattle.layout.specs.Numbers.{splitOf, bandsOf, channelsOf, allPassOf, shortDelayOf, groupsOf}
 use Rattle.layout.proofs.Bounds.{bounds}
 use Rattle.lists.specs.Ring.{age}
+use Rattle.lists.specs.Rows.{rows}
 use Rattle.lists.proofs.Maps.{tabulate-same}
 use Rattle.lists.proofs.Ring.{age-small}
 use Rattle.lists.proofs.Rows.{rows-same}
-use Rattle.planar.specs.Cells.{overwritten}
-use Rattle.planar.specs.Frame.{numbersOf}
+use Rattle.planar.specs.Frame.{numbersOf, phaseNumbers}
 use Rattle.planar.specs.Window.{imageOf}
-use Rattle.ps_decorr.specs.Channels.{longWith, shortWith, detectorsWith}
+use Rattle.ps_decorr.specs.Channels.{plainWith}
 use Rattle.ps_decorr_allpass.specs.Memory.{cellOf, ownerOf, delaysWith}
+use Rattle.ps_decorr_transient.specs.Gains.{detectorNumbers, detectorsWith}
 use Rattle.ps_stereo.specs.declared.PsStereo.{PsStereo}
-use Rattle.ps_stereo.specs.Kept.{keptIn, stereoWith}
+use Rattle.ps_stereo.specs.Kept.{matricesWith, phasesWith, stereoWith}
 use Rattle.standard.specs.Channel.{Channel, back}
 use Rattle.standard.specs.Detector.{Detector}
 use Rattle.standard.specs.Mixing.{Kept}
@@ -65,10 +65,10 @@ reach-short Bands34 j = rw (le-ltb (62 + j) 50 (omega arith), le-ltb (62 + j) 62
 chain-inside : (l : Layout) (k : ℕ) → k < allPassOf l → k < channelsOf l
 chain-inside l k u = let b = bounds l in omega arith
 
-pub long-inside : (l : Layout) (j : ℕ) → j < 12 → allPassOf l + j < channelsOf l
+long-inside : (l : Layout) (j : ℕ) → j < 12 → allPassOf l + j < channelsOf l
 long-inside l j u = let b = bounds l in omega arith
 
-pub short-inside : (l : Layout) (j : ℕ) → j < 29 → shortDelayOf l + j < channelsOf l
+short-inside : (l : Layout) (j : ℕ) → j < 29 → shortDelayOf l + j < channelsOf l
 short-inside l j u = omega (arith, bounds l .last)
 
 -- ---- the channels
@@ -96,53 +96,40 @@ module _ (l : Layout) (c d : ℕ → Channel) (near : (k : ℕ) → k < channels
       ap (λ (x : Float). cond (ltb m (112 * groupsOf l)) x (getD old m nan))
       (chosen (ltb (ownerOf m) (allPassOf l)) _ _ _ (λ e. rw (cell-alike t (ownerOf m) (ltb-true (ownerOf m) (allPassOf l) e) (m % 112 / 8)))))
 
-  long-alike : (t : ℕ) → longWith l t c ≡ longWith l t d
-  unfolding longWith
-  long-alike t =
-      rows-same _ _ 14
+  plain-alike : (t : ℕ) → plainWith l t c ≡ plainWith l t d
+  unfolding plainWith
+  plain-alike t =
+      ap₂ (λ (a b : List Float). a ++ b)
+      (rows-same _ _ 14
       (λ r u. rows-same _ _ 12
-      (λ j v. ap numbers (past-alike (allPassOf l + j) 14 (long-inside l j v) (reach-long l j v) (age 14 t r) (age-small 14 t r (omega arith)))))
-
-  short-alike : shortWith l c ≡ shortWith l d
-  unfolding shortWith
-  short-alike = rows-same _ _ 29 (λ j u. ap numbers (past-alike (shortDelayOf l + j) 1 (short-inside l j u) (reach-short l j) 0 (omega arith)))
+      (λ j v. ap numbers (past-alike (allPassOf l + j) 14 (long-inside l j v) (reach-long l j v) (age 14 t r) (age-small 14 t r (omega arith))))))
+      (rows-same _ _ 29 (λ j u. ap numbers (past-alike (shortDelayOf l + j) 1 (short-inside l j u) (reach-short l j) 0 (omega arith))))
 
 -- ---- the bands
 
--- what is overwritten in the first n places
-over-alike : {A : Type 0} (n : ℕ) (c d old : ℕ → A) → ((b : ℕ) → b < n → c b ≡ d b) → (b : ℕ) → overwritten n c old b ≡ overwritten n d old b
-over-alike n c d old same b = chosen (ltb b n) (c b) (d b) (old b) (λ e. same b (ltb-true b n e))
+-- the same rows in front of the same rest
+laid-alike : {A : Type 0} (f g : ℕ → List A) (n : ℕ) (rest : List A) → ((k : ℕ) → k < n → f k ≡ g k) → rows f n ++ rest ≡ rows g n ++ rest
+laid-alike {A} f g n rest same = ap (λ (a : List A). a ++ rest) (rows-same f g n same)
 
-pub detectors-alike : (l : Layout) (c d : ℕ → Detector) → ((b : ℕ) → b < bandsOf l → c b ≡ d b) → (old : List Float) → detectorsWith l c old ≡ detectorsWith l d old
+detectors-alike : (l : Layout) (c d : ℕ → Detector) → ((b : ℕ) → b < bandsOf l → c b ≡ d b) → (old : List Float) → detectorsWith l c old ≡ detectorsWith l d old
 unfolding detectorsWith
-detectors-alike l c d same old =
-    let over = over-alike (bandsOf l) c d _ same in
-    ap₂ (λ (a b : List Float). a ++ b) (tabulate-same _ _ 34 (λ b u. ap (λ (x : Detector). x .peak) (over b)))
-    (ap₂ (λ (a b : List Float). a ++ b) (tabulate-same _ _ 34 (λ b u. ap (λ (x : Detector). x .smooth) (over b)))
-    (tabulate-same _ _ 34 (λ b u. ap (λ (x : Detector). x .difference) (over b))))
+detectors-alike l c d same old = laid-alike _ _ (bandsOf l) _ (λ b u. ap detectorNumbers (same b u))
 
 stereo-alike : (l : Layout) (c d : ℕ → Kept) → ((b : ℕ) → b < bandsOf l → c b ≡ d b) → (old : PsStereo) → stereoWith l c old ≡ stereoWith l d old
-unfolding stereoWith
+unfolding matricesWith phasesWith
 stereo-alike l c d same old = λ i. record { matrices = matrices i; phases = phases i }
   where
-    over : (b : ℕ) → overwritten (bandsOf l) c (keptIn old) b ≡ overwritten (bandsOf l) d (keptIn old) b
-    over = over-alike (bandsOf l) c d (keptIn old) same
+    matrices : matricesWith l c (old .matrices) ≡ matricesWith l d (old .matrices)
+    matrices = laid-alike _ _ (bandsOf l) _ (λ b u. ap (λ (x : Kept). numbersOf (x .matrix)) (same b u))
 
-    matrices : stereoWith l c old .matrices ≡ stereoWith l d old .matrices
-    matrices = rows-same _ _ 34 (λ b u. chosen (ltb b (bandsOf l)) _ _ _ (λ e. ap (λ (x : Kept). numbersOf (x .matrix)) (same b (ltb-true b (bandsOf l) e))))
-
-    phases : stereoWith l c old .phases ≡ stereoWith l d old .phases
-    phases =
-        ap₂ (λ (a b : List ℤ). a ++ b) (tabulate-same _ _ 34 (λ b u. ap (λ (x : Kept). x .ipd .oldest) (over b)))
-        (ap₂ (λ (a b : List ℤ). a ++ b) (tabulate-same _ _ 34 (λ b u. ap (λ (x : Kept). x .ipd .previous) (over b)))
-        (ap₂ (λ (a b : List ℤ). a ++ b) (tabulate-same _ _ 34 (λ b u. ap (λ (x : Kept). x .opd .oldest) (over b)))
-        (tabulate-same _ _ 34 (λ b u. ap (λ (x : Kept). x .opd .previous) (over b)))))
+    phases : phasesWith l c (old .phases) ≡ phasesWith l d (old .phases)
+    phases = laid-alike _ _ (bandsOf l) _ (λ b u. ap (λ (x : Kept). phaseNumbers (x .ipd) (x .opd)) (same b u))
 
 -- ---- the whole
 
 history-alike : (l : Layout) (g h : ℕ → List Complex) → ((p : ℕ) → p < splitOf l → Alike 6 (g p) (h p)) → (old : List Float) → historyWith l g old ≡ historyWith l h old
 unfolding historyWith
-history-alike l g h alike old = rows-same _ _ 5 (λ p u. chosen (ltb p (splitOf l)) _ _ _ (λ e. image-alike 6 (g p) (h p) (alike p (ltb-true p (splitOf l) e))))
+history-alike l g h alike old = laid-alike _ _ (splitOf l) _ (λ p u. image-alike 6 (g p) (h p) (alike p u))
 
 pub stored-near : (old : PsDecoder) (s t : Playing) → Near s t → stored old s ≡ stored old t
 unfolding stored
@@ -155,8 +142,7 @@ stored-near old s t near =
     let same : turn ≡ turnAfter old (t .slots) = ap (turnAfter old) (near .slots) in
     let delays = delays-alike l (s .core .channel) (t .core .channel) (core .channel) turn (old .decorr .delays)
     ∙ ap₂ (λ (x : Layout) (n : ℕ). delaysWith x n (t .core .channel) (old .decorr .delays)) e same in
-    let long = long-alike l (s .core .channel) (t .core .channel) (core .channel) turn ∙ ap₂ (λ (x : Layout) (n : ℕ). longWith x n (t .core .channel)) e same in
-    let short = short-alike l (s .core .channel) (t .core .channel) (core .channel) ∙ ap (λ (x : Layout). shortWith x (t .core .channel)) e in
+    let plain = plain-alike l (s .core .channel) (t .core .channel) (core .channel) turn ∙ ap₂ (λ (x : Layout) (n : ℕ). plainWith x n (t .core .channel)) e same in
     let detectors = detectors-alike l (s .core .detector) (t .core .detector) (core .detector) (old .decorr .detectors)
     ∙ ap (λ (x : Layout). detectorsWith x (t .core .detector) (old .decorr .detectors)) e in
     let stereo = stereo-alike l (s .core .kept) (t .core .kept) (core .kept) (old .stereo) ∙ ap (λ (x : Layout). stereoWith x (t .core .kept) (old .stereo)) e in
@@ -166,6 +152,6 @@ stored-near old s t near =
       cued = core .cued i;
       lines = near .lines i;
       history = history i;
-      decorr = record { turn = same i; delays = delays i; long = long i; short = short i; detectors = detectors i };
+      decorr = record { turn = same i; delays = delays i; plain = plain i; detectors = detectors i };
       stereo = stereo i;
     }

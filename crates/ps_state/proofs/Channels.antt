@@ -1,24 +1,24 @@
--- A frame's own reset over flat numbers: the channels before the place are as they were, and those from it on are silent, in all three memories.
+-- A frame's own reset over flat numbers: the channels before the place are as they were, and those from it on are silent, in both memories.
 -- Assumes nothing.
 use mathlib.Core.Path.{_≡_, refl, sym, ap, _∙_}
 use mathlib.Core.Bool.{Bool, true, false}
-use Prim.Native.Nat.{ℕ, _+_, _-_, _*_, _<_, _≤_}
+use Prim.Native.Nat.{ℕ, _+_, _-_, _*_, _/_, _%_, _<_, _≤_}
 use native.Mathlib.Omega.{arith}
-use borrow.Author.Tests.{ltb-true, ltb-false, leb-true, leb-false, lt-ltb, le-ltb}
+use borrow.Author.Tests.{ltb-true, ltb-false, leb-true, leb-false, lt-ltb, le-ltb, le-leb}
 use lib.Dec.{ltb, leb}
 use lib.ListN.{length, length-replicate}
 use Rattle.calls.specs.Near.{NearChannel}
 use Rattle.complex.specs.declared.Complex.{Complex}
 use Rattle.layout.specs.declared.Layout.{Layout}
-use Rattle.layout.specs.Numbers.{channelsOf, allPassOf, shortDelayOf}
+use Rattle.layout.specs.Numbers.{channelsOf, allPassOf, shortDelayOf, groupsOf}
 use Rattle.layout.proofs.Bounds.{bounds}
 use Rattle.lists.proofs.Maps.{tabulate-same}
 use Rattle.planar.specs.Cells.{cell}
 use Rattle.ps_decorr.specs.declared.PsDecorr.{PsDecorr}
 use Rattle.ps_decorr.specs.Channels.{delayOf, channelIn}
-use Rattle.ps_decorr.specs.State.{freshDecorr, longOwner, shortOwner, delaysReset, resetFrom}
+use Rattle.ps_decorr.specs.State.{freshDecorr, plainOwner, delaysReset, plainReset, resetFrom}
 use Rattle.ps_decorr.proofs.Silenced.{cell-cleared, cell-kept}
-use Rattle.ps_decorr_allpass.specs.Memory.{laneOf, ownerOf}
+use Rattle.ps_decorr_allpass.specs.Memory.{laneOf, ownerOf, silencedFrom}
 use Rattle.ps_decorr_allpass.proofs.Places.{placeOf, owner-re, owner-im, lane-at}
 use Rattle.ps_decorr_allpass.proofs.Rings.{ringed-same, channel-same}
 use Rattle.standard.specs.Channel.{Channel, silent}
@@ -40,21 +40,20 @@ kinds l k G chain long short = go (ltb k (allPassOf l)) refl (ltb k (shortDelayO
 
 pub record Sized (d : PsDecorr) : Type 0 where
   pub delays : length (d .delays) ≡ 1456
-  pub long : length (d .long) ≡ 336
-  pub short : length (d .short) ≡ 58
+  pub plain : length (d .plain) ≡ 394
 
 pub fresh-sized : Sized freshDecorr
-fresh-sized = record { delays = length-replicate 1456 zero; long = length-replicate 336 zero; short = length-replicate 58 zero }
+fresh-sized = record { delays = length-replicate 1456 zero; plain = length-replicate 394 zero }
 
 abbrev pub channelFrom : Layout → PsDecorr → ℕ → Channel
-channelFrom l d k = channelIn l (d .turn) (d .delays) (d .long) (d .short) k
+channelFrom l d k = channelIn l (d .turn) (d .delays) (d .plain) k
 
 -- the cells of a plain delay
 abbrev longCell : Layout → ℕ → PsDecorr → ℕ → Complex
-longCell l k d r = cell 1 (d .long) (24 * r + 2 * (k - allPassOf l))
+longCell l k d r = cell 1 (d .plain) (24 * r + 2 * (k - allPassOf l))
 
 abbrev shortCell : Layout → ℕ → PsDecorr → Complex
-shortCell l k d = cell 1 (d .short) (2 * (k - shortDelayOf l))
+shortCell l k d = cell 1 (d .plain) (336 + 2 * (k - shortDelayOf l))
 
 record Same (l : Layout) (k : ℕ) (d e : PsDecorr) : Type 0 where
   pub turn : d .turn ≡ e .turn
@@ -67,14 +66,38 @@ unfolding channelIn
 same-channel l k d e s =
     let t = e .turn in
     rw (s .turn)
-    (kinds l k (channelIn l t (d .delays) (d .long) (d .short) k ≡ channelFrom l e k)
+    (kinds l k (channelIn l t (d .delays) (d .plain) k ≡ channelFrom l e k)
     (λ u. rw (lt-ltb k (allPassOf l) u) (channel-same t (laneOf (d .delays) k) (laneOf (e .delays) k) (s .chain u)))
     (λ u v. rw (le-ltb k (allPassOf l) u, lt-ltb k (shortDelayOf l) v) (ap delayOf (ringed-same 14 t (longCell l k d) (longCell l k e) (omega arith) (s .long u v))))
     (λ u v. rw (le-ltb k (allPassOf l) u, le-ltb k (shortDelayOf l) v) (ap delayOf (tabulate-same (λ i. shortCell l k d) (λ i. shortCell l k e) 1 (λ i w. s .short v)))))
 
 -- ---- the reset
 
+-- the channel that a number of the plain delays belongs to
+module _ (l : Layout) (m : ℕ) where
+  long-owner : m < 336 → plainOwner l m ≡ allPassOf l + m % 24 / 2
+  long-owner u = rw (lt-ltb m 336 u)
+
+  short-owner : 336 ≤ m → plainOwner l m ≡ shortDelayOf l + (m - 336) / 2
+  short-owner u = rw (le-ltb m 336 u)
+
 module _ (l : Layout) (place : ℕ) (d : PsDecorr) (z : Sized d) (k : ℕ) (u : k < channelsOf l) where
+  abbrev longAt : ℕ → ℕ
+  longAt r = 24 * r + 2 * (k - allPassOf l)
+
+  abbrev shortAt : ℕ
+  shortAt = 336 + 2 * (k - shortDelayOf l)
+
+  -- with room for all of it, every number is reset by its owner
+  delays-are : ltb place (allPassOf l) ≡ true → delaysReset l place (d .delays) ≡ silencedFrom ownerOf place (d .delays)
+  delays-are e = rw (le-leb (112 * groupsOf l) (length (d .delays)) (omega (arith, z .delays, bounds l .groups)), e)
+
+  delays-stay : ltb place (allPassOf l) ≡ false → delaysReset l place (d .delays) ≡ d .delays
+  delays-stay e = rw (le-leb (112 * groupsOf l) (length (d .delays)) (omega (arith, z .delays, bounds l .groups)), e)
+
+  plain-is : plainReset l place (d .plain) ≡ silencedFrom (plainOwner l) place (d .plain)
+  plain-is = rw (z .plain)
+
   reset-before : k < place → Same l k (resetFrom l place d) d
   unfolding resetFrom
   reset-before h =
@@ -82,28 +105,44 @@ module _ (l : Layout) (place : ℕ) (d : PsDecorr) (z : Sized d) (k : ℕ) (u : 
       record {
         turn = refl;
         chain = λ v j w. lane v j w (ltb place (allPassOf l)) refl;
-        long = λ v w r x. cell-kept (longOwner l) place (d .long) 1 (24 * r + 2 * (k - allPassOf l)) (omega (arith, z .long, n .short)) (omega (arith, n .short)) (omega (arith, n .short));
-        short = λ v. cell-kept (shortOwner l) place (d .short) 1 (2 * (k - shortDelayOf l)) (omega (arith, z .short, n .last)) (omega arith) (omega arith);
+        long = λ v w r x.
+            rw plain-is
+            (cell-kept (plainOwner l) place (d .plain) 1 (longAt r) (omega (arith, z .plain, n .short))
+            (omega (arith, n .short, long-owner l (longAt r) (omega (arith, n .short))))
+            (omega (arith, n .short, long-owner l (longAt r + 1) (omega (arith, n .short)))));
+        short = λ v.
+            rw plain-is
+            (cell-kept (plainOwner l) place (d .plain) 1 shortAt (omega (arith, z .plain, n .last))
+            (omega (arith, short-owner l shortAt (omega arith)))
+            (omega (arith, short-owner l (shortAt + 1) (omega arith))));
       }
     where
       lane : k < allPassOf l → (j : ℕ) → j < 14 → (t : Bool) → ltb place (allPassOf l) ≡ t → laneOf (delaysReset l place (d .delays)) k j ≡ laneOf (d .delays) k j
       lane v j w true e =
-          rw e
+          rw (delays-are e)
           (lane-at k j w _
           ∙ cell-kept ownerOf place (d .delays) 4 (placeOf k j) (omega (arith, z .delays, bounds l .all-pass)) (rw (owner-re k j w) h) (rw (owner-im k j w) h)
           ∙ sym (lane-at k j w (d .delays)))
-      lane v j w false e = rw e
+      lane v j w false e = rw (delays-stay e)
 
   reset-behind : place ≤ k → NearChannel l k (channelFrom l (resetFrom l place d) k) silent
   unfolding resetFrom
   reset-behind h =
       let n = bounds l in
-      near-quiet l k (d .turn) _ _ _
+      near-quiet l k (d .turn) _ _
       (λ v j w.
-      rw (lt-ltb place (allPassOf l) (omega arith))
+      rw (delays-are (lt-ltb place (allPassOf l) (omega arith)))
       (lane-at k j w _ ∙ cell-cleared ownerOf place (d .delays) 4 (placeOf k j) (omega (arith, z .delays, n .all-pass)) (rw (owner-re k j w) h) (rw (owner-im k j w) h)))
-      (λ v w r x. cell-cleared (longOwner l) place (d .long) 1 (24 * r + 2 * (k - allPassOf l)) (omega (arith, z .long, n .short)) (omega (arith, n .short)) (omega (arith, n .short)))
-      (λ v. cell-cleared (shortOwner l) place (d .short) 1 (2 * (k - shortDelayOf l)) (omega (arith, z .short, n .last)) (omega arith) (omega arith))
+      (λ v w r x.
+      rw plain-is
+      (cell-cleared (plainOwner l) place (d .plain) 1 (longAt r) (omega (arith, z .plain, n .short))
+      (omega (arith, n .short, long-owner l (longAt r) (omega (arith, n .short))))
+      (omega (arith, n .short, long-owner l (longAt r + 1) (omega (arith, n .short))))))
+      (λ v.
+      rw plain-is
+      (cell-cleared (plainOwner l) place (d .plain) 1 shortAt (omega (arith, z .plain, n .last))
+      (omega (arith, short-owner l shortAt (omega arith)))
+      (omega (arith, short-owner l (shortAt + 1) (omega arith)))))
 
 -- ---- as the definitions have it
 

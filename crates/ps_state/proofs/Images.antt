@@ -1,35 +1,27 @@
--- What is read back from the lists that hold a state: a row of rows, a place of tables that stand one after the other, a history of its image, and a
--- channel of its rings. Assumes nothing.
+-- What is read back from the lists that hold a state: a row of rows, a history of its image, and a channel of its rings. Assumes nothing.
 use Prim.Native.Nat.{ℕ, suc, _+_, _-_, _*_, _<_, _≤_}
 use mathlib.Core.Path.{_≡_, sym, subst, ap, _∙_}
-use mathlib.Core.Bool.{Bool, true, false, cond}
 use mathlib.Core.List.{List, [], _++_}
-use native.Mathlib.Nat.{mul-comm, suc-mul, mul-le-mul-right}
+use native.Mathlib.Nat.{add-zero, mul-comm, suc-mul, mul-le-mul-right}
 use native.Mathlib.Omega.{arith}
-use borrow.Author.Tests.{lt-ltb}
-use lib.Dec.{ltb}
-use lib.IntN.{ℤ, pos}
 use lib.Ieee.{Float, nan}
-use lib.ListN.{length, getD, replicate, length-replicate, getD-replicate, List·getD-append}
-use lib.Seq.{ext-getD, getD-append-add}
+use lib.ListN.{length, getD, drop, replicate, length-append, length-drop, length-replicate, getD-replicate}
+use lib.Seq.{ext-getD}
 use Rattle.calls.specs.Near.{Alike}
 use Rattle.complex.specs.declared.Complex.{Complex}
 use Rattle.lists.specs.Part.{part}
 use Rattle.lists.specs.Rows.{rows, tabulate}
 use Rattle.lists.proofs.Maps.{tabulate-length, tabulate-at}
-use Rattle.lists.proofs.Parts.{part-at, part-length}
+use Rattle.lists.proofs.Parts.{part-at, part-front, part-length}
 use Rattle.lists.proofs.Rows.{rows-length, rows-part}
 use Rattle.planar.specs.Cells.{cell}
-use Rattle.planar.specs.Frame.{ipdOf, opdOf}
 use Rattle.planar.specs.Window.{imageOf, historyOf}
 use Rattle.planar.proofs.Cells.{by-parts, planar-at, planar-length}
 use Rattle.planar.proofs.Rings.{ringed-ring}
 use Rattle.ps_decorr_allpass.specs.Memory.{channelOf, cellOf}
 use Rattle.ps_decorr_allpass.proofs.Rings.{cell-past, cell-first, cell-second, cell-third}
-use Rattle.ps_decorr_transient.specs.Gains.{detectorOf}
 use Rattle.standard.specs.Numbers.{zero, nought}
 use Rattle.standard.specs.Channel.{Channel, back}
-use Rattle.standard.specs.Detector.{Detector}
 
 -- ---- lists
 
@@ -38,34 +30,34 @@ module _ {A : Type 0} where
   pub row-part : (f : ℕ → List A) (w n : ℕ) → ((k : ℕ) → k < n → length (f k) ≡ w) → (k : ℕ) → k < n → part (w * k) w (rows f n) ≡ f k
   row-part f w n wide k u = ap (λ (a : ℕ). part a w (rows f n)) (mul-comm w k) ∙ rows-part f w n wide k u
 
-  -- the first m of n rows are new, the others as they were
-  abbrev pub laid : ℕ → ℕ → (ℕ → List A) → List A → ℕ → List A
-  laid w m new old k = cond (ltb k m) (new k) (part (w * k) w old)
+  -- the first m rows of w are new; what lies behind stays
+  module _ (w m : ℕ) (new : ℕ → List A) (old : List A) (wide : (k : ℕ) → length (new k) ≡ w) where
+    abbrev laid : List A
+    laid = rows new m ++ drop (w * m) old
 
-  module _ (w m n : ℕ) (new : ℕ → List A) (old : List A) (wide : (k : ℕ) → length (new k) ≡ w) (long : length old ≡ n * w) where
-    laid-wide : (k : ℕ) → k < n → length (laid w m new old k) ≡ w
-    laid-wide k u = go (ltb k m)
-      where
-        inside : w * k + w ≤ length old
-        inside = rw (long, mul-comm w k) (omega (arith, suc-mul k w, mul-le-mul-right {m = suc k} {n = n} w u))
+    new-length : length (rows new m) ≡ m * w
+    new-length = rows-length new w m (λ k u. wide k)
 
-        go : (t : Bool) → length (cond t (new k) (part (w * k) w old)) ≡ w
-        go true = wide k
-        go false = part-length (w * k) w old inside
+    pub laid-length : w * m ≤ length old → length laid ≡ length old
+    laid-length room = rw (length-append, new-length, length-drop, mul-comm w m) (omega (arith, mul-comm w m))
 
-    pub laid-length : length (rows (laid w m new old) n) ≡ n * w
-    laid-length = rows-length (laid w m new old) w n laid-wide
+    pub laid-part : (k : ℕ) → k < m → part (w * k) w laid ≡ new k
+    laid-part k u =
+        part-front (w * k) w (rows new m) (drop (w * m) old)
+        (rw (new-length, mul-comm w k) (omega (arith, suc-mul k w, mul-le-mul-right {m = suc k} {n = m} w u)))
+        ∙ row-part new w m (λ k u. wide k) k u
 
-    pub laid-part : m ≤ n → (k : ℕ) → k < m → part (w * k) w (rows (laid w m new old) n) ≡ new k
-    laid-part fits k u = row-part (laid w m new old) w n laid-wide k (omega arith) ∙ rw (lt-ltb k m u)
+    pub laid-at : (k i : ℕ) (d : A) → k < m → i < w → getD laid (w * k + i) d ≡ getD (new k) i d
+    laid-at k i d u v = sym (part-at (w * k) w laid i d v) ∙ ap (λ (t : List A). getD t i d) (laid-part k u)
 
-  -- a table with more behind it, and what stands behind it
-  module _ (f : ℕ → A) (n : ℕ) (rest : List A) (i : ℕ) (d : A) where
-    pub table-first : i < n → getD (tabulate f n ++ rest) i d ≡ f i
-    table-first h = List·getD-append (tabulate f n) rest d i (rw tabulate-length h) ∙ tabulate-at f n i d h
+    pub laid-first : (k : ℕ) (d : A) → k < m → 0 < w → getD laid (w * k) d ≡ getD (new k) 0 d
+    laid-first k d u v = ap (λ (n : ℕ). getD laid n d) (sym (add-zero (w * k))) ∙ laid-at k 0 d u v
 
-    pub table-next : getD (tabulate f n ++ rest) (n + i) d ≡ getD rest i d
-    table-next = ap (λ (m : ℕ). getD (tabulate f n ++ rest) (m + i) d) (sym (tabulate-length f n)) ∙ getD-append-add (tabulate f n) rest i d
+  -- a table that is the same everywhere
+  pub repeated : (n : ℕ) (z : A) → tabulate (λ k. z) n ≡ replicate n z
+  repeated n z =
+      ext-getD z (tabulate (λ k. z) n) (replicate n z) (tabulate-length (λ k. z) n ∙ sym (length-replicate n z))
+      (λ i v. let u : i < n = (rw tabulate-length at v) in tabulate-at (λ k. z) n i z u ∙ sym (getD-replicate n i z z u))
 
   -- a part of a list that is the same everywhere
   pub part-repeated : (a k n : ℕ) (z : A) → a + k ≤ n → part a k (replicate n z) ≡ replicate k z
@@ -126,71 +118,3 @@ rings-chained t cells c is =
       second = ringed-ring 4 t (λ j. cells (5 + j)) (c .second) (λ j u. is (5 + j) (omega arith) ∙ cell-second t c j u);
       third = ringed-ring 5 t (λ j. cells (9 + j)) (c .third) (λ j u. is (9 + j) (omega arith) ∙ cell-third t c j u);
     }
-
--- ---- bands
-
--- three tables of 34 bands, as detectors are kept
-pub detectors-at : (new : ℕ → Detector) (b : ℕ) → b < 34
-    → detectorOf (tabulate (λ i. new i .peak) 34 ++ (tabulate (λ i. new i .smooth) 34 ++ tabulate (λ i. new i .difference) 34)) b ≡ new b
-detectors-at new b u = λ i. record { peak = peak i; smooth = smooth i; difference = difference i }
-  where
-    peaks : List Float
-    peaks = tabulate (λ i. new i .peak) 34
-
-    smooths : List Float
-    smooths = tabulate (λ i. new i .smooth) 34
-
-    differences : List Float
-    differences = tabulate (λ i. new i .difference) 34
-
-    peak : getD (peaks ++ (smooths ++ differences)) b nan ≡ new b .peak
-    peak = table-first (λ i. new i .peak) 34 (smooths ++ differences) b nan u
-
-    smooth : getD (peaks ++ (smooths ++ differences)) (b + 34) nan ≡ new b .smooth
-    smooth =
-        let at : b + 34 ≡ 34 + b = omega arith in
-        ap (λ (j : ℕ). getD (peaks ++ (smooths ++ differences)) j nan) at
-        ∙ table-next (λ i. new i .peak) 34 (smooths ++ differences) b nan
-        ∙ table-first (λ i. new i .smooth) 34 differences b nan u
-
-    difference : getD (peaks ++ (smooths ++ differences)) (b + 68) nan ≡ new b .difference
-    difference =
-        let at : b + 68 ≡ 34 + (34 + b) = omega arith in
-        ap (λ (j : ℕ). getD (peaks ++ (smooths ++ differences)) j nan) at
-        ∙ table-next (λ i. new i .peak) 34 (smooths ++ differences) (34 + b) nan
-        ∙ table-next (λ i. new i .smooth) 34 differences b nan
-        ∙ tabulate-at (λ i. new i .difference) 34 b nan u
-
--- four tables of 34 bands, as phases are kept
-module _ (a b c d : ℕ → ℤ) (i : ℕ) (u : i < 34) where
-  abbrev second-on : List ℤ
-  second-on = tabulate b 34 ++ (tabulate c 34 ++ tabulate d 34)
-
-  abbrev third-on : List ℤ
-  third-on = tabulate c 34 ++ tabulate d 34
-
-  pub ipd-at : ipdOf (tabulate a 34 ++ second-on) i ≡ record { oldest = a i; previous = b i }
-  ipd-at = λ j. record { oldest = oldest j; previous = previous j }
-    where
-      oldest : getD (tabulate a 34 ++ second-on) i (pos 0) ≡ a i
-      oldest = table-first a 34 second-on i (pos 0) u
-
-      previous : getD (tabulate a 34 ++ second-on) (34 + i) (pos 0) ≡ b i
-      previous = table-next a 34 second-on i (pos 0) ∙ table-first b 34 third-on i (pos 0) u
-
-  -- behind the first two
-  behind-two : (place at : ℕ) → place ≡ 34 + (34 + at) → getD (tabulate a 34 ++ second-on) place (pos 0) ≡ getD third-on at (pos 0)
-  behind-two place at e =
-      ap (λ (j : ℕ). getD (tabulate a 34 ++ second-on) j (pos 0)) e
-      ∙ table-next a 34 second-on (34 + at) (pos 0)
-      ∙ table-next b 34 third-on at (pos 0)
-
-  pub opd-at : opdOf (tabulate a 34 ++ second-on) i ≡ record { oldest = c i; previous = d i }
-  opd-at = λ j. record { oldest = oldest j; previous = previous j }
-    where
-      oldest : getD (tabulate a 34 ++ second-on) (68 + i) (pos 0) ≡ c i
-      oldest = behind-two (68 + i) i (omega arith) ∙ table-first c 34 (tabulate d 34) i (pos 0) u
-
-      previous : getD (tabulate a 34 ++ second-on) (102 + i) (pos 0) ≡ d i
-      previous =
-          behind-two (102 + i) (34 + i) (omega arith) ∙ table-next c 34 (tabulate d 34) i (pos 0) ∙ tabulate-at d 34 i (pos 0) u

@@ -3,4 +3,7 @@ pub mod Images
 pub mod Stored
 pub mod Channels
 pub mod Remapped
+pub mod Lent
 pub mod Readied
+pub mod Laid
+pub mod Steps

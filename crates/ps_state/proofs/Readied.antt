@@ -1,33 +1,34 @@
 -- The state made ready over flat numbers is near the state that the definitions make ready, and keeps its lengths. Assumes nothing.
 use mathlib.Core.Path.{_≡_, refl, _∙_}
-use mathlib.Core.Bool.{Bool, true, false, cond}
+use mathlib.Core.Bool.{Bool, true, false, cond, _&&_}
 use mathlib.Core.List.{List, []}
 use Prim.Native.Nat.{ℕ, _*_, _<_}
 use native.Mathlib.Omega.{arith}
-use lib.Dec.{ltb}
+use lib.Dec.{eqb, leb, ltb}
 use lib.Ieee.{Float}
 use lib.IntN.{pos}
 use lib.ListN.{length, replicate, length-replicate}
 use Rattle.calls.specs.Near.{Alike, NearCore}
 use Rattle.calls.proofs.Ready.{layout-is}
 use Rattle.layout.specs.declared.Layout.{Layout}
-use Rattle.layout.specs.Numbers.{allPassOf}
+use Rattle.layout.specs.Numbers.{allPassOf, groupsOf}
 use Rattle.layout.proofs.Bounds.{bounds}
 use Rattle.lists.specs.Part.{part}
 use Rattle.planar.specs.Window.{historyOf}
-use Rattle.ps_decorr.specs.State.{freshDecorr, longOwner, shortOwner, delaysReset, resetFrom}
-use Rattle.ps_decorr_allpass.specs.Memory.{silencedFrom}
+use Rattle.ps_decorr.specs.State.{freshDecorr, plainOwner, delaysReset, plainReset, resetFrom}
+use Rattle.ps_decorr_allpass.specs.Memory.{ownerOf, silencedFrom}
 use Rattle.ps_decorr_allpass.proofs.Silenced.{silenced-length}
-use Rattle.ps_decorr_allpass.specs.Memory.{ownerOf}
 use Rattle.ps_stereo.specs.State.{switchedTo}
 use Rattle.standard.specs.Core.{Core, Head, sameLayout, remapped, switched, clearFrom, cleared, ready}
 use Rattle.standard.specs.Channel.{silent}
 use Rattle.standard.specs.Detector.{calm}
 use Rattle.standard.specs.Numbers.{zero}
+use Rattle.ps_state.specs.declared.PsCarried.{PsCarried}
 use Rattle.ps_state.specs.declared.PsDecoder.{PsDecoder}
-use Rattle.ps_state.specs.State.{coreOf}
-use Rattle.ps_state.specs.Ready.{switchedFrom, clearedPlace, readied}
+use Rattle.ps_state.specs.State.{soundLong, decoderIn, coreOf}
+use Rattle.ps_state.specs.Ready.{switchedFrom, clearedPlace, readied, readyIn}
 use Rattle.ps_state.specs.Shape.{Shaped}
+use Rattle.ps_state.proofs.Lent.{Heard, heard, heard-in, decoder-apart}
 use Rattle.ps_state.proofs.Images.{part-repeated, held-silent}
 use Rattle.ps_state.proofs.Stored.{fresh-detector}
 use Rattle.ps_state.proofs.Channels.{Sized, fresh-sized, near-cleared, near-renewed}
@@ -36,7 +37,7 @@ use Rattle.ps_state.proofs.Remapped.{remapped-length, remapped-kept}
 -- ---- in two steps: a change of layout, then the reset
 
 -- the state after a real change of layout, over numbers and in the definitions
-abbrev renewed : Layout → PsDecoder → PsDecoder
+abbrev pub renewed : Layout → PsDecoder → PsDecoder
 renewed l s =
     record {
       asked = s .asked;
@@ -52,7 +53,7 @@ abbrev renewedCore : Layout → Core → Core
 renewedCore l s = record { layout = l; cued = s .cued; channel = λ k. silent; detector = λ b. calm; kept = remapped l (s .kept) }
 
 -- the reset alone
-abbrev resetIn : Layout → ℕ → PsDecoder → PsDecoder
+abbrev pub resetIn : Layout → ℕ → PsDecoder → PsDecoder
 resetIn l edge t =
     record {
       asked = t .asked;
@@ -94,7 +95,7 @@ module _ (s : PsDecoder) (head : Head) (shape : Shaped s) where
   l = head .layout
 
   sized : Sized (s .decorr)
-  sized = record { delays = shape .delays; long = shape .long; short = shape .short }
+  sized = record { delays = shape .delays; plain = shape .plain }
 
   near-kept : s .layout ≡ l → NearCore (coreOf (resetIn l (head .edge) s)) (resetCore head (coreOf s))
   unfolding coreOf clearFrom resetFrom
@@ -128,46 +129,69 @@ near-readied s head shape = go (sameLayout (s .layout) (head .layout)) refl
 
 -- ---- the lengths
 
-delays-reset-length : (l : Layout) (place : ℕ) (delays : List Float) → length (delaysReset l place delays) ≡ length delays
-delays-reset-length l place delays = go (ltb place (allPassOf l))
-  where
-    go : (t : Bool) → length (cond t (silencedFrom ownerOf place delays) delays) ≡ length delays
-    go true = silenced-length ownerOf place delays
-    go false = refl
+either-length : (owner : ℕ → ℕ) (place : ℕ) (xs : List Float) (t : Bool) → length (cond t (silencedFrom owner place xs) xs) ≡ length xs
+either-length owner place xs true = silenced-length owner place xs
+either-length owner place xs false = refl
 
-reset-shaped : (l : Layout) (edge : ℕ) (t : PsDecoder) → Shaped t → Shaped (resetIn l edge t)
+pub delays-reset-length : (l : Layout) (place : ℕ) (delays : List Float) → length (delaysReset l place delays) ≡ length delays
+delays-reset-length l place delays = either-length ownerOf place delays (leb (112 * groupsOf l) (length delays) && ltb place (allPassOf l))
+
+pub plain-reset-length : (l : Layout) (place : ℕ) (plain : List Float) → length (plainReset l place plain) ≡ length plain
+plain-reset-length l place plain = either-length (plainOwner l) place plain (eqb (length plain) 394)
+
+reset-heard : (l : Layout) (edge : ℕ) (t : PsDecoder) → Heard t → Heard (resetIn l edge t)
 unfolding resetFrom
-reset-shaped l edge t shape =
+reset-heard l edge t shape =
     let place = clearedPlace l edge (t .cued) in
     record {
       history = shape .history;
       delays = delays-reset-length l place (t .decorr .delays) ∙ shape .delays;
-      long = silenced-length (longOwner l) place (t .decorr .long) ∙ shape .long;
-      short = silenced-length (shortOwner l) place (t .decorr .short) ∙ shape .short;
+      plain = plain-reset-length l place (t .decorr .plain) ∙ shape .plain;
       detectors = shape .detectors;
       matrices = shape .matrices;
-      phases = shape .phases;
     }
 
-renewed-shaped : (l : Layout) (s : PsDecoder) → Shaped (renewed l s)
+renewed-heard : (l : Layout) (s : PsDecoder) → Heard (renewed l s)
 unfolding switchedTo
-renewed-shaped l s =
+renewed-heard l s =
     record {
       history = length-replicate 60 zero;
       delays = fresh-sized .delays;
-      long = fresh-sized .long;
-      short = fresh-sized .short;
+      plain = fresh-sized .plain;
       detectors = length-replicate 102 zero;
       matrices = remapped-length l (s .stereo .matrices);
-      phases = length-replicate 136 (pos 0);
     }
 
-pub shaped-readied : (s : PsDecoder) (l : Layout) (edge : ℕ) → Shaped s → Shaped (readied l edge s)
-shaped-readied s l edge shape = go (sameLayout (s .layout) l) refl
+heard-readied : (s : PsDecoder) (l : Layout) (edge : ℕ) → Heard s → Heard (readied l edge s)
+heard-readied s l edge shape = go (sameLayout (s .layout) l) refl
   where
-    go : (same : Bool) → sameLayout (s .layout) l ≡ same → Shaped (readied l edge s)
-    go true e = rw (readied-same s l edge e) (reset-shaped l edge s shape)
-    go false e = rw (readied-other s l edge e) (reset-shaped l edge (renewed l s) (renewed-shaped l s))
+    go : (same : Bool) → sameLayout (s .layout) l ≡ same → Heard (readied l edge s)
+    go true e = rw (readied-same s l edge e) (reset-heard l edge s shape)
+    go false e = rw (readied-other s l edge e) (reset-heard l edge (renewed l s) (renewed-heard l s))
+
+pub shaped-readied : (s : PsDecoder) (l : Layout) (edge : ℕ) → Shaped s → Shaped (readied l edge s)
+unfolding switchedTo
+shaped-readied s l edge shape =
+    let kept = heard-readied s l edge (heard shape) in
+    record {
+      history = kept .history;
+      delays = kept .delays;
+      plain = kept .plain;
+      detectors = kept .detectors;
+      matrices = kept .matrices;
+      phases = go (sameLayout (s .layout) l) refl;
+    }
+  where
+    go : (same : Bool) → sameLayout (s .layout) l ≡ same → length (readied l edge s .stereo .phases) ≡ 136
+    go true e = rw (readied-same s l edge e) (shape .phases)
+    go false e = rw (readied-other s l edge e) (length-replicate 136 (pos 0))
+
+-- ---- a state apart, of the right length, made ready
+
+pub ready-decoder : (l : Layout) (edge : ℕ) (s : PsCarried) (m : List Float) → length m ≡ soundLong
+    → decoderIn (readyIn l edge s m .carried) (readyIn l edge s m .sound) ≡ readied l edge (decoderIn s m)
+unfolding readyIn
+ready-decoder l edge s m long = rw long (decoder-apart (readied l edge (decoderIn s m)) (heard-readied (decoderIn s m) l edge (heard-in s m long)))
 
 -- ---- the hybrid history: kept, or silent after a real change
 

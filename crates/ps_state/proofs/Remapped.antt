@@ -72,7 +72,7 @@ keptFrom f oldest previous older last =
 
 kept-same : (f g : ℕ → Float) (p : ℕ → ℤ) (z : ℤ) (b : ℕ)
     → ((c : ℕ) → c < 8 → f c ≡ g c) → ((i : ℕ) → i < 136 → p i ≡ z) → b < 34
-    → keptFrom f (p b) (p (34 + b)) (p (68 + b)) (p (102 + b)) ≡ keptFrom g z z z z
+    → keptFrom f (p (4 * b)) (p (4 * b + 1)) (p (4 * b + 2)) (p (4 * b + 3)) ≡ keptFrom g z z z z
 kept-same f g p z b same all u =
     rw (
       same 0 (omega arith),
@@ -83,13 +83,14 @@ kept-same f g p z b same all u =
       same 5 (omega arith),
       same 6 (omega arith),
       same 7 (omega arith),
-      all b (omega arith),
-      all (34 + b) (omega arith),
-      all (68 + b) (omega arith),
-      all (102 + b) (omega arith),
+      all (4 * b) (omega arith),
+      all (4 * b + 1) (omega arith),
+      all (4 * b + 2) (omega arith),
+      all (4 * b + 3) (omega arith),
     )
 
-pub remapped-kept : (l : Layout) (s : PsStereo) (b : ℕ) → b < 34 → keptIn (switchedTo l s) b ≡ remapped l (keptIn s) b
+pub remapped-kept : (l : Layout) (s : PsStereo) (b : ℕ) → b < 34
+    → keptIn (switchedTo l s .matrices) (switchedTo l s .phases) b ≡ remapped l (keptIn (s .matrices) (s .phases)) b
 unfolding switchedTo remapped
 remapped-kept l s b u =
     let m = s .matrices in

@@ -4,11 +4,11 @@ use mathlib.Core.Path.{_≡_, refl, sym, ap, _∙_}
 use mathlib.Core.Bool.{Bool, true, false}
 use mathlib.Core.List.{List}
 use native.Mathlib.Omega.{arith}
-use borrow.Author.Tests.{ltb-true, ltb-false, lt-ltb}
+use borrow.Author.Tests.{ltb-true, ltb-false}
 use lib.Dec.{ltb}
-use lib.IntN.{pos}
+use lib.IntN.{ℤ, pos}
 use lib.Ieee.{Float, nan}
-use lib.ListN.{length, getD, replicate, length-append, length-replicate, getD-replicate}
+use lib.ListN.{length, getD, replicate, length-replicate, getD-replicate}
 use Rattle.borders.specs.Borders.{slotsOf}
 use Rattle.calls.specs.Call.{Playing, fresh}
 use Rattle.calls.specs.Near.{Alike, NearChannel, NearCore, Near}
@@ -21,21 +21,20 @@ use Rattle.lists.specs.Part.{part}
 use Rattle.lists.specs.Ring.{age}
 use Rattle.lists.proofs.Maps.{tabulate-length, tabulate-at}
 use Rattle.lists.proofs.Ring.{age-small}
-use Rattle.planar.specs.Cells.{cell, overwritten}
-use Rattle.planar.specs.Frame.{keptMatrix, numbersOf, ipdOf, opdOf}
+use Rattle.planar.specs.Cells.{cell}
+use Rattle.planar.specs.Frame.{keptMatrix, numbersOf, phaseNumbers}
 use Rattle.planar.specs.Rings.{ringCell, longPast, shortPast}
 use Rattle.planar.specs.Window.{imageOf}
 use Rattle.planar.proofs.Cells.{by-parts}
 use Rattle.planar.proofs.Rings.{ringed-back, ringed-ring}
-use Rattle.ps_decorr.specs.Channels.{channelIn, longWith, shortWith, detectorsWith}
-use Rattle.ps_decorr.proofs.Held.{short-length, short-held, long-length, long-held}
+use Rattle.ps_decorr.specs.Channels.{channelIn, plainWith}
+use Rattle.ps_decorr.proofs.Held.{plain-length, short-held, long-held}
 use Rattle.ps_decorr_allpass.specs.Memory.{laneOf, channelOf, delaysWith}
 use Rattle.ps_decorr_allpass.proofs.Places.{placeOf, lane-at, lane-held}
 use Rattle.ps_decorr_allpass.proofs.Rings.{cell-silent}
-use Rattle.ps_decorr_transient.specs.Gains.{detectorOf}
+use Rattle.ps_decorr_transient.specs.Gains.{detectorOf, detectorNumbers, detectorsWith}
 use Rattle.ps_stereo.specs.declared.PsStereo.{PsStereo}
-use Rattle.ps_stereo.specs.State.{freshStereo}
-use Rattle.ps_stereo.specs.Kept.{keptIn, stereoWith}
+use Rattle.ps_stereo.specs.Kept.{keptIn, matricesWith, phasesWith, stereoWith}
 use Rattle.standard.specs.Channel.{Channel, silent, back}
 use Rattle.standard.specs.Core as core
 use Rattle.standard.specs.Detector.{Detector, calm}
@@ -44,19 +43,19 @@ use Rattle.standard.specs.Numbers.{zero, nought}
 use Rattle.ps_state.specs.declared.PsDecoder.{PsDecoder}
 use Rattle.ps_state.specs.Shape.{Shaped}
 use Rattle.ps_state.specs.State.{freshDecoder, coreOf, playingOf, historyWith, turnAfter, stored}
-use Rattle.ps_state.proofs.Images.{laid-length, laid-part, part-repeated, image-length, Held, held-image, held-silent, Chained, rings-chained, detectors-at, ipd-at, opd-at}
+use Rattle.ps_state.proofs.Images.{laid-length, laid-part, laid-at, laid-first, part-repeated, image-length, Held, held-image, held-silent, Chained, rings-chained}
 
 -- ---- a channel is near where the cells that hold it are
 
-pub near-channel : (l : Layout) (k t : ℕ) (delays long short : List Float) (c : Channel)
+pub near-channel : (l : Layout) (k t : ℕ) (delays plain : List Float) (c : Channel)
     → (k < allPassOf l → Chained (channelOf t (laneOf delays k)) c)
-    → (allPassOf l ≤ k → k < shortDelayOf l → Alike 14 (longPast t long (k - allPassOf l)) (c .past))
-    → (shortDelayOf l ≤ k → Alike 1 (shortPast short (k - shortDelayOf l)) (c .past))
-    → NearChannel l k (channelIn l t delays long short k) c
+    → (allPassOf l ≤ k → k < shortDelayOf l → Alike 14 (longPast t plain (k - allPassOf l)) (c .past))
+    → (shortDelayOf l ≤ k → Alike 1 (shortPast plain (k - shortDelayOf l)) (c .past))
+    → NearChannel l k (channelIn l t delays plain k) c
 unfolding channelIn
-near-channel l k t delays long short c chain far close = go (ltb k (allPassOf l)) (ltb k (shortDelayOf l)) refl refl
+near-channel l k t delays plain c chain far close = go (ltb k (allPassOf l)) (ltb k (shortDelayOf l)) refl refl
   where
-    go : (s u : Bool) → ltb k (allPassOf l) ≡ s → ltb k (shortDelayOf l) ≡ u → NearChannel l k (channelIn l t delays long short k) c
+    go : (s u : Bool) → ltb k (allPassOf l) ≡ s → ltb k (shortDelayOf l) ≡ u → NearChannel l k (channelIn l t delays plain k) c
     go true u e f =
         let here : k < allPassOf l = ltb-true k (allPassOf l) e in
         record {
@@ -84,80 +83,74 @@ near-channel l k t delays long short c chain far close = go (ltb k (allPassOf l)
 
 -- ---- the lists that hold a state
 
-module _ (l : Layout) (past : ℕ → List Complex) (old : List Float) (long : length old ≡ 60) where
-  history-length : length (historyWith l past old) ≡ 60
+module _ (l : Layout) (past : ℕ → List Complex) (old : List Float) where
+  history-length : length old ≡ 60 → length (historyWith l past old) ≡ 60
   unfolding historyWith
-  history-length = laid-length 12 (splitOf l) 5 (λ p. imageOf 6 (past p)) old (λ p. image-length 6 (past p)) long
+  history-length long = laid-length 12 (splitOf l) (λ p. imageOf 6 (past p)) old (λ p. image-length 6 (past p)) (omega (arith, bounds l .split)) ∙ long
 
   history-held : (p : ℕ) → p < splitOf l → Held 6 (part (12 * p) 12 (historyWith l past old)) (past p)
   unfolding historyWith
   history-held p u =
       held-image 6 (part (12 * p) 12 (historyWith l past old)) (past p)
-      (laid-part 12 (splitOf l) 5 (λ p. imageOf 6 (past p)) old (λ p. image-length 6 (past p)) long (bounds l .split) p u)
+      (laid-part 12 (splitOf l) (λ p. imageOf 6 (past p)) old (λ p. image-length 6 (past p)) p u)
 
 channel-near : (l : Layout) (t : ℕ) (channel : ℕ → Channel) (old : List Float) → length old ≡ 1456 → (k : ℕ) → k < channelsOf l
-    → NearChannel l k (channelIn l t (delaysWith l t channel old) (longWith l t channel) (shortWith l channel) k) (channel k)
+    → NearChannel l k (channelIn l t (delaysWith l t channel old) (plainWith l t channel) k) (channel k)
 channel-near l t channel old long k u =
     let n = bounds l in
-    near-channel l k t (delaysWith l t channel old) (longWith l t channel) (shortWith l channel) (channel k)
+    near-channel l k t (delaysWith l t channel old) (plainWith l t channel) (channel k)
     (λ v. rings-chained t (laneOf (delaysWith l t channel old) k) (channel k) (λ j w. lane-held k j w l t channel old long v))
     (λ h v.
     let same : allPassOf l + (k - allPassOf l) ≡ k = omega arith in
-    ringed-ring 14 t (λ r. cell 1 (longWith l t channel) (24 * r + 2 * (k - allPassOf l))) (channel k .past)
+    ringed-ring 14 t (λ r. cell 1 (plainWith l t channel) (24 * r + 2 * (k - allPassOf l))) (channel k .past)
     (λ r w. long-held l channel t r (k - allPassOf l) w (omega (arith, n .short)) ∙ ap (λ (m : ℕ). ringCell 14 t (channel m .past) r) same))
     (λ h i v.
     let same : shortDelayOf l + (k - shortDelayOf l) ≡ k = omega arith in
-    tabulate-at (λ i. cell 1 (shortWith l channel) (2 * (k - shortDelayOf l))) 1 i nought v
-    ∙ short-held l channel (k - shortDelayOf l) (omega (arith, n .last))
+    tabulate-at (λ i. cell 1 (plainWith l t channel) (336 + 2 * (k - shortDelayOf l))) 1 i nought v
+    ∙ short-held l channel t (k - shortDelayOf l) (omega (arith, n .last))
     ∙ ap (λ (m : ℕ). back 0 (channel m .past)) same
     ∙ ap (λ (m : ℕ). back m (channel k .past)) (omega arith))
 
 module _ (l : Layout) (detector : ℕ → Detector) (old : List Float) where
-  detectors-length : length (detectorsWith l detector old) ≡ 102
+  detectors-length : length old ≡ 102 → length (detectorsWith l detector old) ≡ 102
   unfolding detectorsWith
-  detectors-length = simp (length-append, tabulate-length)
+  detectors-length long = laid-length 3 (bandsOf l) (λ b. detectorNumbers (detector b)) old (λ b. refl) (omega (arith, bounds l .bands)) ∙ long
 
   detector-held : (b : ℕ) → b < bandsOf l → detectorOf (detectorsWith l detector old) b ≡ detector b
   unfolding detectorsWith
   detector-held b u =
-      detectors-at (overwritten (bandsOf l) detector (detectorOf old)) b (omega (arith, bounds l .bands)) ∙ rw (lt-ltb b (bandsOf l) u)
+      λ i.
+      record {
+        peak = laid-first 3 (bandsOf l) (λ b. detectorNumbers (detector b)) old (λ b. refl) b nan u (omega arith) i;
+        smooth = laid-at 3 (bandsOf l) (λ b. detectorNumbers (detector b)) old (λ b. refl) b 1 nan u (omega arith) i;
+        difference = laid-at 3 (bandsOf l) (λ b. detectorNumbers (detector b)) old (λ b. refl) b 2 nan u (omega arith) i;
+      }
 
-module _ (l : Layout) (kept : ℕ → Kept) (old : PsStereo) (long : length (old .matrices) ≡ 272) where
-  matrices-length : length (stereoWith l kept old .matrices) ≡ 272
-  unfolding stereoWith
-  matrices-length = laid-length 8 (bandsOf l) 34 (λ b. numbersOf (kept b .matrix)) (old .matrices) (λ b. refl) long
+module _ (l : Layout) (kept : ℕ → Kept) where
+  matrices-length : (old : List Float) → length old ≡ 272 → length (matricesWith l kept old) ≡ 272
+  unfolding matricesWith
+  matrices-length old long = laid-length 8 (bandsOf l) (λ b. numbersOf (kept b .matrix)) old (λ b. refl) (omega (arith, bounds l .bands)) ∙ long
 
-  phases-length : length (stereoWith l kept old .phases) ≡ 136
-  unfolding stereoWith
-  phases-length = simp (length-append, tabulate-length)
+  phases-length : (old : List ℤ) → length old ≡ 136 → length (phasesWith l kept old) ≡ 136
+  unfolding phasesWith
+  phases-length old long =
+      laid-length 4 (bandsOf l) (λ b. phaseNumbers (kept b .ipd) (kept b .opd)) old (λ b. refl) (omega (arith, bounds l .bands)) ∙ long
 
-  kept-held : (b : ℕ) → b < bandsOf l → keptIn (stereoWith l kept old) b ≡ kept b
-  unfolding stereoWith
-  kept-held b u = λ j. record { matrix = matrix j; ipd = ipd j; opd = opd j }
+  kept-held : (old : PsStereo) (b : ℕ) → b < bandsOf l → keptIn (stereoWith l kept old .matrices) (stereoWith l kept old .phases) b ≡ kept b
+  unfolding matricesWith phasesWith
+  kept-held old b u = λ i. record { matrix = matrix i; ipd = record { oldest = first i; previous = at 1 (omega arith) i }; opd = record { oldest = at 2 (omega arith) i; previous = at 3 (omega arith) i } }
     where
-      new : ℕ → Kept
-      new = overwritten (bandsOf l) kept (keptIn old)
+      matrix : keptMatrix (part (8 * b) 8 (matricesWith l kept (old .matrices))) ≡ kept b .matrix
+      matrix = ap keptMatrix (laid-part 8 (bandsOf l) (λ b. numbersOf (kept b .matrix)) (old .matrices) (λ b. refl) b u)
 
-      inside : b < 34
-      inside = omega (arith, bounds l .bands)
+      phases : ℕ → List ℤ
+      phases b = phaseNumbers (kept b .ipd) (kept b .opd)
 
-      is-new : new b ≡ kept b
-      is-new = rw (lt-ltb b (bandsOf l) u)
+      first : getD (phasesWith l kept (old .phases)) (4 * b) (pos 0) ≡ kept b .ipd .oldest
+      first = laid-first 4 (bandsOf l) phases (old .phases) (λ b. refl) b (pos 0) u (omega arith)
 
-      matrix : keptMatrix (part (8 * b) 8 (stereoWith l kept old .matrices)) ≡ kept b .matrix
-      matrix =
-          ap keptMatrix
-          (laid-part 8 (bandsOf l) 34 (λ b. numbersOf (kept b .matrix)) (old .matrices) (λ b. refl) long (bounds l .bands) b u)
-
-      ipd : ipdOf (stereoWith l kept old .phases) b ≡ kept b .ipd
-      ipd =
-          ipd-at (λ i. new i .ipd .oldest) (λ i. new i .ipd .previous) (λ i. new i .opd .oldest) (λ i. new i .opd .previous) b inside
-          ∙ ap (λ (k : Kept). k .ipd) is-new
-
-      opd : opdOf (stereoWith l kept old .phases) b ≡ kept b .opd
-      opd =
-          opd-at (λ i. new i .ipd .oldest) (λ i. new i .ipd .previous) (λ i. new i .opd .oldest) (λ i. new i .opd .previous) b inside
-          ∙ ap (λ (k : Kept). k .opd) is-new
+      at : (i : ℕ) → i < 4 → getD (phasesWith l kept (old .phases)) (4 * b + i) (pos 0) ≡ getD (phases b) i (pos 0)
+      at i v = laid-at 4 (bandsOf l) phases (old .phases) (λ b. refl) b i (pos 0) u v
 
 -- ---- a decoder that holds a state
 
@@ -167,11 +160,10 @@ module _ (old : PsDecoder) (s : Playing) (shape : Shaped old) where
   shaped-stored =
       record {
         delays = tabulate-length _ (length (old .decorr .delays)) ∙ shape .delays;
-        long = long-length (s .core .layout) (s .core .channel) (turnAfter old (s .slots));
-        short = short-length (s .core .layout) (s .core .channel);
-        detectors = detectors-length (s .core .layout) (s .core .detector) (old .decorr .detectors);
-        matrices = matrices-length (s .core .layout) (s .core .kept) (old .stereo) (shape .matrices);
-        phases = phases-length (s .core .layout) (s .core .kept) (old .stereo) (shape .matrices);
+        plain = plain-length (s .core .layout) (s .core .channel) (turnAfter old (s .slots));
+        detectors = detectors-length (s .core .layout) (s .core .detector) (old .decorr .detectors) (shape .detectors);
+        matrices = matrices-length (s .core .layout) (s .core .kept) (old .stereo .matrices) (shape .matrices);
+        phases = phases-length (s .core .layout) (s .core .kept) (old .stereo .phases) (shape .phases);
         history = history-length (s .core .layout) (s .past) (old .history) (shape .history);
       }
 
@@ -183,7 +175,7 @@ module _ (old : PsDecoder) (s : Playing) (shape : Shaped old) where
         cued = refl;
         channel = channel-near (s .core .layout) (turnAfter old (s .slots)) (s .core .channel) (old .decorr .delays) (shape .delays);
         detector = detector-held (s .core .layout) (s .core .detector) (old .decorr .detectors);
-        kept = kept-held (s .core .layout) (s .core .kept) (old .stereo) (shape .matrices);
+        kept = kept-held (s .core .layout) (s .core .kept) (old .stereo);
       }
 
   pub near-stored : s .slots ≡ slotsOf (old .asked) → Near (playingOf (stored old s)) s
@@ -192,50 +184,50 @@ module _ (old : PsDecoder) (s : Playing) (shape : Shaped old) where
       record {
         slots = sym slots;
         lines = refl;
-        past = history-held (s .core .layout) (s .past) (old .history) (shape .history);
+        past = history-held (s .core .layout) (s .past) (old .history);
         core = core-near;
       }
 
 -- ---- a fresh decoder
 
 -- silent cells hold silence, after any number of slots
-pub near-quiet : (l : Layout) (k t : ℕ) (delays long short : List Float)
+pub near-quiet : (l : Layout) (k t : ℕ) (delays plain : List Float)
     → (k < allPassOf l → (j : ℕ) → j < 14 → laneOf delays k j ≡ nought)
-    → (allPassOf l ≤ k → k < shortDelayOf l → (r : ℕ) → r < 14 → cell 1 long (24 * r + 2 * (k - allPassOf l)) ≡ nought)
-    → (shortDelayOf l ≤ k → cell 1 short (2 * (k - shortDelayOf l)) ≡ nought)
-    → NearChannel l k (channelIn l t delays long short k) silent
-near-quiet l k t delays long short chain far close =
-    near-channel l k t delays long short silent
+    → (allPassOf l ≤ k → k < shortDelayOf l → (r : ℕ) → r < 14 → cell 1 plain (24 * r + 2 * (k - allPassOf l)) ≡ nought)
+    → (shortDelayOf l ≤ k → cell 1 plain (336 + 2 * (k - shortDelayOf l)) ≡ nought)
+    → NearChannel l k (channelIn l t delays plain k) silent
+near-quiet l k t delays plain chain far close =
+    near-channel l k t delays plain silent
     (λ u. rings-chained t (laneOf delays k) silent (λ j v. chain u j v ∙ sym (cell-silent t j)))
     (λ u v i w.
-    ringed-back 14 t (λ r. cell 1 long (24 * r + 2 * (k - allPassOf l))) i w ∙ far u v (age 14 t i) (age-small 14 t i (omega arith)))
-    (λ u i v. tabulate-at (λ i. cell 1 short (2 * (k - shortDelayOf l))) 1 i nought v ∙ close u)
+    ringed-back 14 t (λ r. cell 1 plain (24 * r + 2 * (k - allPassOf l))) i w ∙ far u v (age 14 t i) (age-small 14 t i (omega arith)))
+    (λ u i v. tabulate-at (λ i. cell 1 plain (336 + 2 * (k - shortDelayOf l))) 1 i nought v ∙ close u)
 
 zeros-at : (n apart at : ℕ) → at + apart < n → cell apart (replicate n zero) at ≡ nought
 zeros-at n apart at room = by-parts (getD-replicate n at zero nan (omega arith)) (getD-replicate n (at + apart) zero nan room)
 
 pub near-silent : (l : Layout) (k : ℕ) → k < channelsOf l
-    → NearChannel l k (channelIn l 0 (replicate 1456 zero) (replicate 336 zero) (replicate 58 zero) k) silent
+    → NearChannel l k (channelIn l 0 (replicate 1456 zero) (replicate 394 zero) k) silent
 near-silent l k u =
     let n = bounds l in
-    near-quiet l k 0 (replicate 1456 zero) (replicate 336 zero) (replicate 58 zero)
+    near-quiet l k 0 (replicate 1456 zero) (replicate 394 zero)
     (λ v j w. lane-at k j w (replicate 1456 zero) ∙ zeros-at 1456 4 (placeOf k j) (omega (arith, n .all-pass)))
-    (λ v w r x. zeros-at 336 1 (24 * r + 2 * (k - allPassOf l)) (omega (arith, n .short)))
-    (λ v. zeros-at 58 1 (2 * (k - shortDelayOf l)) (omega (arith, n .last)))
+    (λ v w r x. zeros-at 394 1 (24 * r + 2 * (k - allPassOf l)) (omega (arith, n .short)))
+    (λ v. zeros-at 394 1 (336 + 2 * (k - shortDelayOf l)) (omega (arith, n .last)))
 
 pub fresh-detector : (b : ℕ) → b < 34 → detectorOf (replicate 102 zero) b ≡ calm
-fresh-detector b u = λ i. record { peak = at b (omega arith) i; smooth = at (b + 34) (omega arith) i; difference = at (b + 68) (omega arith) i }
+fresh-detector b u = λ i. record { peak = at (3 * b) (omega arith) i; smooth = at (3 * b + 1) (omega arith) i; difference = at (3 * b + 2) (omega arith) i }
   where
     at : (i : ℕ) → i < 102 → getD (replicate 102 zero) i nan ≡ zero
     at i v = getD-replicate 102 i zero nan v
 
-fresh-kept : (b : ℕ) → b < 34 → keptIn freshStereo b ≡ freshKept
+fresh-kept : (b : ℕ) → b < 34 → keptIn (replicate 272 zero) (replicate 136 (pos 0)) b ≡ freshKept
 fresh-kept b u =
     λ i.
     record {
       matrix = matrix i;
-      ipd = record { oldest = at b (omega arith) i; previous = at (34 + b) (omega arith) i };
-      opd = record { oldest = at (68 + b) (omega arith) i; previous = at (102 + b) (omega arith) i };
+      ipd = record { oldest = at (4 * b) (omega arith) i; previous = at (4 * b + 1) (omega arith) i };
+      opd = record { oldest = at (4 * b + 2) (omega arith) i; previous = at (4 * b + 3) (omega arith) i };
     }
   where
     matrix : keptMatrix (part (8 * b) 8 (replicate 272 zero)) ≡ noMatrix
@@ -249,8 +241,7 @@ module _ (asked : ℕ) where
   shaped-fresh =
       record {
         delays = length-replicate 1456 zero;
-        long = length-replicate 336 zero;
-        short = length-replicate 58 zero;
+        plain = length-replicate 394 zero;
         detectors = length-replicate 102 zero;
         matrices = length-replicate 272 zero;
         phases = length-replicate 136 (pos 0);

@@ -1,14 +1,19 @@
 -- Table 8.47 and Annex 8.A.3: the carried state made ready for a frame of a layout. Assumes nothing.
 use Prim.Native.Nat.{ℕ}
 use mathlib.Core.Bool.{Bool, cond}
-use lib.ListN.{replicate}
+use mathlib.Core.List.{List}
+use lib.Dec.{eqb}
+use lib.Ieee.{Float}
+use lib.ListN.{length, replicate}
 use Rattle.layout.specs.declared.Layout.{Layout}
 use Rattle.layout.specs.Numbers.{resetFromOf}
 use Rattle.ps_decorr.specs.State.{freshDecorr, resetFrom}
 use Rattle.ps_stereo.specs.State.{switchedTo}
 use Rattle.standard.specs.Numbers.{zero}
 use Rattle.standard.specs.Core.{sameLayout}
+use Rattle.ps_state.specs.declared.PsCarried.{PsCarried}
 use Rattle.ps_state.specs.declared.PsDecoder.{PsDecoder}
+use Rattle.ps_state.specs.State.{Lent, lent, apartOf, decoderIn, soundLong}
 
 -- a change of layout resets the hybrid history, the de-correlator with its detectors and the phase history, and remaps the held coefficients
 unfoldable pub switchedFrom : Layout → PsDecoder → PsDecoder
@@ -40,3 +45,7 @@ readied l edge s =
       decorr = resetFrom l (clearedPlace l edge (t .cued)) (t .decorr);
       stereo = t .stereo;
     }
+
+-- the same of a state apart; nothing changes where its sound is of another length
+unfoldable pub readyIn : Layout → ℕ → PsCarried → List Float → Lent
+readyIn l edge s m = cond (eqb (length m) soundLong) (apartOf (readied l edge (decoderIn s m))) (lent s m)

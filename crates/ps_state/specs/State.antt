@@ -1,10 +1,9 @@
 -- What the carried numbers say: the state of a decoder as the definitions have it, and the numbers that hold such a state. Assumes nothing.
 use Prim.Native.Nat.{ℕ, _+_, _*_, _%_}
-use mathlib.Core.Bool.{false, cond}
-use mathlib.Core.List.{List}
-use lib.Dec.{ltb}
+use mathlib.Core.Bool.{false}
+use mathlib.Core.List.{List, _++_}
 use lib.Ieee.{Float}
-use lib.ListN.{replicate}
+use lib.ListN.{drop, replicate}
 use Rattle.borders.specs.Borders.{slotsOf}
 use Rattle.calls.specs.Call.{Playing}
 use Rattle.complex.specs.declared.Complex.{Complex}
@@ -15,10 +14,11 @@ use Rattle.lists.specs.Part.{part}
 use Rattle.lists.specs.Rows.{rows}
 use Rattle.planar.specs.Window.{imageOf, historyOf}
 use Rattle.ps_data.specs.Indices.{freshLines}
-use Rattle.ps_decorr.specs.State.{decorrOf, freshDecorr}
-use Rattle.ps_decorr.specs.Channels.{channelIn, longWith, shortWith, detectorsWith}
+use Rattle.ps_decorr.specs.declared.PsDecorr.{PsDecorr}
+use Rattle.ps_decorr.specs.State.{freshDecorr}
+use Rattle.ps_decorr.specs.Channels.{channelIn, plainWith}
 use Rattle.ps_decorr_allpass.specs.Memory.{delaysWith}
-use Rattle.ps_decorr_transient.specs.Gains.{detectorOf}
+use Rattle.ps_decorr_transient.specs.Gains.{detectorOf, detectorsWith}
 use Rattle.ps_stereo.specs.State.{freshStereo}
 use Rattle.ps_stereo.specs.Kept.{keptIn, stereoWith}
 use Rattle.standard.specs.Numbers.{zero}
@@ -26,22 +26,54 @@ use Rattle.standard.specs.Core.{Core}
 use Rattle.ps_state.specs.declared.PsCarried.{PsCarried}
 use Rattle.ps_state.specs.declared.PsDecoder.{PsDecoder}
 
--- the state whose small part goes by value, and whose arrays of sound are lent
-abbrev pub decoderOf : PsCarried → List Float → List Float → List Float → List Float → List Float → PsDecoder
-decoderOf s history delays long short detectors =
+-- ---- a state apart: what is small in it, and its numbers of sound in one list
+
+-- where the rings of the all-pass channels stand, behind the history, then the plain delays, the detectors and the coefficients
+abbrev pub delaysAt : ℕ
+delaysAt = 60
+
+abbrev pub plainAt : ℕ
+plainAt = delaysAt + 1456
+
+abbrev pub detectorsAt : ℕ
+detectorsAt = plainAt + 394
+
+abbrev pub matricesAt : ℕ
+matricesAt = detectorsAt + 102
+
+abbrev pub soundLong : ℕ
+soundLong = matricesAt + 272
+
+abbrev pub decorrIn : ℕ → List Float → PsDecorr
+decorrIn turn m = record { turn = turn; delays = part delaysAt 1456 m; plain = part plainAt 394 m; detectors = part detectorsAt 102 m }
+
+abbrev pub decoderIn : PsCarried → List Float → PsDecoder
+decoderIn s m =
     record {
       asked = s .asked;
       layout = s .layout;
       cued = s .cued;
       lines = s .lines;
-      history = history;
-      decorr = decorrOf (s .turn) delays long short detectors;
-      stereo = s .stereo;
+      history = part 0 60 m;
+      decorr = decorrIn (s .turn) m;
+      stereo = record { matrices = part matricesAt 272 m; phases = s .phases };
     }
 
--- what is small in a state
 abbrev pub carriedOf : PsDecoder → PsCarried
-carriedOf s = record { asked = s .asked; layout = s .layout; cued = s .cued; lines = s .lines; stereo = s .stereo; turn = s .decorr .turn }
+carriedOf s = record { asked = s .asked; layout = s .layout; cued = s .cued; lines = s .lines; phases = s .stereo .phases; turn = s .decorr .turn }
+
+unfoldable pub soundOf : PsDecoder → List Float
+soundOf s = s .history ++ (s .decorr .delays ++ (s .decorr .plain ++ (s .decorr .detectors ++ s .stereo .matrices)))
+
+pub record Lent : Type 0 where
+  pub carried : PsCarried
+  pub sound : List Float
+
+abbrev pub lent : PsCarried → List Float → Lent
+lent s m = record { carried = s; sound = m }
+
+abbrev pub apartOf : PsDecoder → Lent
+apartOf s = lent (carriedOf s) (soundOf s)
 
 -- every delay silent, every detector calm, no coefficients, no rows
 abbrev pub freshDecoder : ℕ → PsDecoder
@@ -63,9 +95,9 @@ coreOf s =
     record {
       layout = s .layout;
       cued = s .cued;
-      channel = channelIn (s .layout) (s .decorr .turn) (s .decorr .delays) (s .decorr .long) (s .decorr .short);
+      channel = channelIn (s .layout) (s .decorr .turn) (s .decorr .delays) (s .decorr .plain);
       detector = detectorOf (s .decorr .detectors);
-      kept = keptIn (s .stereo);
+      kept = keptIn (s .stereo .matrices) (s .stereo .phases);
     }
 
 unfoldable pub playingOf : PsDecoder → Playing
@@ -77,10 +109,10 @@ playingOf s =
       core = coreOf s;
     }
 
--- ---- the numbers that hold a state; places that the layout lacks stay as they were
+-- ---- the numbers that hold a state; what the layout lacks stays as it was
 
 unfoldable pub historyWith : Layout → (ℕ → List Complex) → List Float → List Float
-historyWith l past old = rows (λ p. cond (ltb p (splitOf l)) (imageOf 6 (past p)) (part (12 * p) 12 old)) 5
+historyWith l past old = rows (λ p. imageOf 6 (past p)) (splitOf l) ++ drop (12 * splitOf l) old
 
 -- the slots so far, after a frame more
 abbrev pub turnAfter : PsDecoder → ℕ → ℕ
@@ -100,8 +132,7 @@ stored old s =
           record {
             turn = turn;
             delays = delaysWith l turn (s .core .channel) (old .decorr .delays);
-            long = longWith l turn (s .core .channel);
-            short = shortWith l (s .core .channel);
+            plain = plainWith l turn (s .core .channel);
             detectors = detectorsWith l (s .core .detector) (old .decorr .detectors);
           };
       stereo = stereoWith l (s .core .kept) (old .stereo);

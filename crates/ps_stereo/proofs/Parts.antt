@@ -11,10 +11,11 @@ use lib.ListN.{length, getD, set, length-set}
 use lib.Seq.{getD-set-same, getD-set-other, ext-getD}
 use Rattle.lists.specs.Part.{part}
 use Rattle.lists.specs.Rows.{rows, tabulate}
-use Rattle.lists.proofs.Maps.{tabulate-length, tabulate-at}
+use Rattle.lists.proofs.Maps.{tabulate-length, tabulate-at, tabulate-same}
 use Rattle.lists.proofs.Parts.{part-length, part-at}
 use Rattle.lists.proofs.Rows.{rows-same, rows-whole}
 use Rattle.ps_stereo.specs.Parts.{Scattered}
+use Rattle.ps_stereo.specs.State.{partOf}
 
 -- ---- one part, band after band
 pub scattered-none : (c : ℕ) (part old : List Float) → Scattered c part 0 old old
@@ -42,18 +43,29 @@ scattered-more {c} {part} {count} {old} {new} r v small inside whole e = record 
         apart : 8 * b + e ≢ 8 * count + c
         apart z = n (omega arith)
 
--- ---- the parts below `parts` are written, part c by f c
-pub record Remapped (f : ℕ → List Float) (parts : ℕ) (l : List Float) : Type 0 where
+-- ---- in place: the parts below `parts` are written, part c by f c, and the others are as they were
+pub record Remapped (f : ℕ → List Float) (parts : ℕ) (old l : List Float) : Type 0 where
   pub long : length l ≡ 272
   pub some : parts ≤ 8
   pub written : (b c : ℕ) → b < 34 → c < parts → getD l (8 * b + c) nan ≡ getD (f c) b nan
+  pub ahead : (b c : ℕ) → parts ≤ c → c < 8 → getD l (8 * b + c) nan ≡ getD old (8 * b + c) nan
 
-pub remapped-none : (f : ℕ → List Float) (l : List Float) → length l ≡ 272 → Remapped f 0 l
-remapped-none f l h = record { long = h; some = omega arith; written = λ b c u v. absurd (omega arith) }
+pub remapped-none : (f : ℕ → List Float) (l : List Float) → length l ≡ 272 → Remapped f 0 l l
+remapped-none f l h = record { long = h; some = omega arith; written = λ b c u v. absurd (omega arith); ahead = λ b c u v. refl }
 
-module _ {f : ℕ → List Float} {parts : ℕ} {l : List Float} (r : Remapped f parts l) where
-  pub remapped-more : (p new : List Float) → parts < 8 → p ≡ f parts → Scattered parts p 34 l new → Remapped f (parts + 1) new
-  remapped-more p new h e s = record { long = s .long ∙ r .long; some = omega arith; written = written }
+module _ {f : ℕ → List Float} {parts : ℕ} {old l : List Float} (r : Remapped f parts old l) where
+  -- the next part is still to be read
+  pub remapped-part : parts < 8 → partOf l parts ≡ partOf old parts
+  remapped-part h = tabulate-same (λ b. getD l (8 * b + parts) nan) (λ b. getD old (8 * b + parts) nan) 34 (λ b u. r .ahead b parts (omega arith) h)
+
+  pub remapped-more : (p new : List Float) → parts < 8 → p ≡ f parts → Scattered parts p 34 l new → Remapped f (parts + 1) old new
+  remapped-more p new h e s =
+      record {
+        long = s .long ∙ r .long;
+        some = omega arith;
+        written = written;
+        ahead = λ b c u v. s .kept b c v (λ (z : c ≡ parts). omega arith) ∙ r .ahead b c (omega arith) v;
+      }
     where
       written : (b c : ℕ) → b < 34 → c < parts + 1 → getD new (8 * b + c) nan ≡ getD (f c) b nan
       written b c u v = go (eq-or-lt-of-le at-most)

@@ -1,28 +1,27 @@
 -- What the carried numbers of mixing hold, band by band. Assumes nothing.
 use Prim.Native.Nat.{ℕ, _*_}
-use mathlib.Core.Bool.{cond}
-use mathlib.Core.List.{_++_}
-use lib.Dec.{ltb}
+use mathlib.Core.List.{List, _++_}
+use lib.Ieee.{Float}
+use lib.IntN.{ℤ}
+use lib.ListN.{drop}
 use Rattle.layout.specs.declared.Layout.{Layout}
 use Rattle.layout.specs.Numbers.{bandsOf}
 use Rattle.lists.specs.Part.{part}
-use Rattle.lists.specs.Rows.{rows, tabulate}
-use Rattle.planar.specs.Cells.{overwritten}
-use Rattle.planar.specs.Frame.{keptMatrix, numbersOf, ipdOf, opdOf}
+use Rattle.lists.specs.Rows.{rows}
+use Rattle.planar.specs.Frame.{keptMatrix, numbersOf, ipdOf, opdOf, phaseNumbers}
 use Rattle.standard.specs.Mixing.{Kept}
 use Rattle.ps_stereo.specs.declared.PsStereo.{PsStereo}
 
 -- what band b keeps
-abbrev pub keptIn : PsStereo → ℕ → Kept
-keptIn s b = record { matrix = keptMatrix (part (8 * b) 8 (s .matrices)); ipd = ipdOf (s .phases) b; opd = opdOf (s .phases) b }
+abbrev pub keptIn : List Float → List ℤ → ℕ → Kept
+keptIn matrices phases b = record { matrix = keptMatrix (part (8 * b) 8 matrices); ipd = ipdOf phases b; opd = opdOf phases b }
 
--- the numbers that hold what the bands keep; bands that the layout lacks stay as they were
-unfoldable pub stereoWith : Layout → (ℕ → Kept) → PsStereo → PsStereo
-stereoWith l kept old =
-    let new = overwritten (bandsOf l) kept (keptIn old) in
-    record {
-      matrices = rows (λ b. cond (ltb b (bandsOf l)) (numbersOf (kept b .matrix)) (part (8 * b) 8 (old .matrices))) 34;
-      phases =
-          tabulate (λ b. new b .ipd .oldest) 34
-          ++ (tabulate (λ b. new b .ipd .previous) 34 ++ (tabulate (λ b. new b .opd .oldest) 34 ++ tabulate (λ b. new b .opd .previous) 34));
-    }
+-- the numbers that hold what a layout's bands keep; what lies behind stays
+unfoldable pub matricesWith : Layout → (ℕ → Kept) → List Float → List Float
+matricesWith l kept old = rows (λ b. numbersOf (kept b .matrix)) (bandsOf l) ++ drop (8 * bandsOf l) old
+
+unfoldable pub phasesWith : Layout → (ℕ → Kept) → List ℤ → List ℤ
+phasesWith l kept old = rows (λ b. phaseNumbers (kept b .ipd) (kept b .opd)) (bandsOf l) ++ drop (4 * bandsOf l) old
+
+abbrev pub stereoWith : Layout → (ℕ → Kept) → PsStereo → PsStereo
+stereoWith l kept old = record { matrices = matricesWith l kept (old .matrices); phases = phasesWith l kept (old .phases) }

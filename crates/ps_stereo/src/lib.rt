@@ -3,10 +3,10 @@ use layout::Layout;
 ghost use mathlib.Core.Path.{_≡_};
 ghost use Prim.Native.Nat.{_<_};
 ghost use lib.ListN.{length};
-ghost use Rattle.ps_stereo.specs.State.{freshStereo, partOf, remappedTo, switchedTo};
+ghost use Rattle.ps_stereo.specs.State.{freshStereo, partOf, remappedTo, remappedIn};
 ghost use Rattle.ps_stereo.specs.Parts.{Scattered};
 
-// For each band h11, h12, h21, h22 with their parts side by side; and the oldest and previous index of IPD, then of OPD.
+// For each band h11, h12, h21, h22 with their parts side by side; and for each band the oldest and the previous index of IPD, then those of OPD.
 pub struct PsStereo {
     pub matrices: [f64; 272],
     pub phases: [i8; 136],
@@ -22,8 +22,8 @@ pub fn fresh() -> PsStereo
 }
 
 // One of the eight numbers of every band.
-fn gathered(matrices: &[f64; 272], c: usize) -> [f64; 34]
-    requires { ⌜ c < 8 ⌝ }
+fn gathered(matrices: &[f64], c: usize) -> [f64; 34]
+    requires { ⌜ (c < 8) × (length (now matrices) ≡ 272) ⌝ }
     ensures { λ r. ⌜ r ≡ partOf (now (matrices .entry)) c ⌝ }
 {
     let mut part = [0.0; 34];
@@ -46,28 +46,25 @@ fn scatter(part: &[f64; 34], c: usize, matrices: &mut [f64])
     }
 }
 
-fn remapped(matrices: [f64; 272], layout: Layout) -> [f64; 272]
-    ensures { λ r. ⌜ r ≡ remappedTo layout matrices ⌝ }
+fn remap_each(layout: Layout, matrices: &mut [f64])
+    requires { ⌜ length (now matrices) ≡ 272 ⌝ }
+    ensures { λ _. ⌜ now (matrices .exit) ≡ remappedTo layout (now (matrices .entry)) ⌝ }
 {
-    let mut out = [0.0; 272];
     let mut c = 0;
     while c < 8 {
-        let part = gathered(&matrices, c);
+        let part = gathered(matrices, c);
         let mapped = ps_map::map_coefficients(part, layout);
-        scatter(&mapped, c, &mut out);
+        scatter(&mapped, c, matrices);
         c += 1;
     }
-    out
 }
 
-// A change to a layout from the other one.
-pub fn switched(state: PsStereo, layout: Layout) -> PsStereo
-    ensures { λ r. ⌜ r ≡ switchedTo layout state ⌝ }
+// The coefficients of 34 bands after a change to a layout from the other one. Nothing changes where they are those of another number.
+pub fn remap(layout: Layout, matrices: &mut [f64])
+    ensures { λ _. ⌜ now (matrices .exit) ≡ remappedIn layout (now (matrices .entry)) ⌝ }
 {
-    let held = state.matrices;
-    let phases = [0i8; 136];
-    PsStereo {
-        matrices: remapped(held, layout),
-        phases: phases,
+    if matrices.len() != 272 {
+        return;
     }
+    remap_each(layout, matrices);
 }

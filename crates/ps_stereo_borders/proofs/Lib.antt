@@ -1,5 +1,7 @@
+pub mod Runs
 pub mod Parts
 pub mod Phases
-pub mod Matrices
-pub mod Rows
+pub mod Courses
 pub mod Turns
+pub mod Fits
+pub mod Standard

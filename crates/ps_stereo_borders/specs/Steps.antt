@@ -3,34 +3,31 @@ use Prim.Native.Nat.{ℕ, _+_, _*_, _≤_}
 use mathlib.Core.List.{List, _++_}
 use mathlib.Core.Path.{_≡_}
 use lib.Ieee.{Float}
+use lib.IntN.{ℤ}
 use lib.ListN.{length, drop}
-use Rattle.cue.specs.declared.Config.{Config}
+use Rattle.cue.specs.declared.Header.{Header}
 use Rattle.layout.specs.declared.Layout.{Layout}
 use Rattle.layout.specs.Numbers.{bandsOf}
 use Rattle.limits.specs.Limits as limits
-use Rattle.lists.specs.Part.{part}
+use Rattle.lists.specs.Part.{part, put}
+use Rattle.lists.specs.Rows as lists
 use Rattle.ps_data.specs.declared.PsIndices.{PsIndices}
-use Rattle.ps_stereo.specs.declared.PsStereo.{PsStereo}
-use Rattle.standard.specs.declared.Modes.{Modes}
-use Rattle.ps_stereo_borders.specs.Borders.{rowsAfter}
+use Rattle.ps_stereo.specs.Kept.{phasesWith}
+use Rattle.ps_stereo_borders.specs.Borders.{keptThen, coursesThen}
 
--- both lists have the places that a copy goes through
-pub record Room (count at : ℕ) (from to : List Float) : Type 0 where
-  pub there : at + count ≤ length from
-  pub here : count ≤ length to
+-- both lists have the runs that a copy goes through, and a run has eight numbers from the place on
+pub record Room (bands run at wide from to : ℕ) : Type 0 where
+  pub there : run * bands ≤ from
+  pub inside : at + 8 ≤ run
+  pub here : wide * bands ≤ to
+  pub broad : 8 ≤ wide
 
--- the first numbers are those from a place of another list
-abbrev pub replaced : ℕ → ℕ → List Float → List Float → List Float
-replaced count at from to = part at count from ++ drop count to
+-- the front of each of the first runs is eight numbers of another list's
+abbrev pub copied : ℕ → List Float → ℕ → ℕ → List Float → ℕ → List Float
+copied bands from run at to wide = lists.rows (λ b. put 0 8 (part (wide * b) wide to) (part (run * b + at) 8 from)) bands ++ drop (wide * bands) to
 
--- row 0 has the kept coefficients
-pub record Started (l : Layout) (matrices lent rows : List Float) : Type 0 where
-  pub whole : length matrices ≡ 272
-  pub long : length lent ≡ limits.matrices
-  pub is : rows ≡ replaced (8 * bandsOf l) 0 matrices lent
-
--- the rows of the envelopes are to be written behind row 0
-pub record Ready (l : Layout) (modes : Modes) (config : Config) (indices : PsIndices) (count : ℕ) (old : PsStereo) (rows : List Float) : Type 0 where
-  pub few : count ≤ limits.envelopes
-  pub long : length rows ≡ limits.matrices
-  pub first : rows ≡ rowsAfter l modes config indices old 0 rows
+-- after e envelopes, whatever coefficients the courses begin with
+pub record Advanced (l : Layout) (h : Header) (indices : PsIndices) (directions : List ℤ) (phases₀ : List ℤ) (rows₀ : List Float) (e : ℕ) (phases : List ℤ) (rows : List Float) : Type 0 where
+  pub moved : (matrices : List Float) → phases ≡ phasesWith l (λ b. keptThen l h indices directions matrices phases₀ b e) phases₀
+  pub courses : (matrices lent : List Float) → limits.course * bandsOf l ≤ length lent → rows₀ ≡ coursesThen l h indices directions matrices phases₀ 0 lent
+      → rows ≡ coursesThen l h indices directions matrices phases₀ e lent

@@ -1,89 +1,35 @@
 // The coefficients of every band at every border of a frame (source document 000, §8.6.4.6.2 and §8.6.4.6.3).
-use cue::Config;
 use cue::Header;
 use layout::Layout;
 use ps_data::PsIndices;
-use ps_stereo::PsStereo;
 use standard::Modes;
 ghost use mathlib.Core.Path.{_≡_};
-ghost use Prim.Native.Nat.{min};
+ghost use Prim.Native.Nat.{_*_, _≤_};
+ghost use lib.ListN.{length};
 ghost use Rattle.calls.specs.Call.{modesOf};
+ghost use Rattle.layout.specs.Numbers.{bandsOf};
 ghost use Rattle.limits.specs.Limits as limits;
-ghost use Rattle.ps_stereo_borders.specs.Borders.{rowsAfter, stereoAfter};
-ghost use Rattle.ps_stereo_borders.specs.Steps.{Room, replaced, Started, Ready};
+ghost use Rattle.ps_stereo_borders.specs.Borders.{rowsAfter, matricesAfter, phasesAfter};
+ghost use Rattle.ps_stereo_borders.specs.Steps.{Room, copied, Advanced};
 
-// The numbers from a place of a list, to the front of another.
-fn copy(count: usize, at: usize, from: &[f64], to: &mut [f64])
-    requires { ⌜ Room count at (now from) (now to) ⌝ }
-    ensures { λ _. ⌜ now (to .exit) ≡ replaced count at (now (from .entry)) (now (to .entry)) ⌝ }
+fn eight(from: &[f64], to: &mut [f64])
+    requires { ⌜ (length (now from) ≡ 8) × (length (now to) ≡ 8) ⌝ }
+    ensures { λ _. ⌜ now (to .exit) ≡ now (from .entry) ⌝ }
 {
-    for i in 0..count {
-        to[i] = from[at + i];
+    for i in 0..8 {
+        to[i] = from[i];
     }
 }
 
-// Row 0: the coefficients kept from the frame before.
-fn start(layout: Layout, matrices: &[f64; 272], rows: &mut [f64; limits::MATRICES])
-    ensures { λ _. ⌜ Started layout (now (matrices .entry)) (now (rows .entry)) (now (rows .exit)) ⌝ }
+// Eight numbers of each band, from a place of its run in one list to the front of its run in another.
+fn copy(bands: usize, from: &[f64], run: usize, at: usize, to: &mut [f64], wide: usize)
+    requires { ⌜ Room bands run at wide (length (now from)) (length (now to)) ⌝ }
+    ensures { λ _. ⌜ now (to .exit) ≡ copied bands (now (from .entry)) run at (now (to .entry)) wide ⌝ }
 {
-    let bands = layout.bands();
-    copy(8 * bands, 0, matrices, rows);
-}
-
-// The rows of the envelopes, and the phase indices after them. Both tables are made once.
-fn envelopes(
-    layout: Layout,
-    modes: Modes,
-    config: Config,
-    indices: PsIndices,
-    count: usize,
-    state: PsStereo,
-    rows: &mut [f64; limits::MATRICES],
-) -> [i8; 136]
-    requires { ⌜ Ready layout modes config indices count state (now rows) ⌝ }
-    ensures state { λ r. ⌜ r ≡ stereoAfter layout modes config indices state count .phases ⌝ }
-    ensures rows { λ _. ⌜ now (rows .exit) ≡ rowsAfter layout modes config indices state count (now (rows .entry)) ⌝ }
-{
-    let coefficients = mixing_table::table();
-    let directions = phase_table::table();
-    let mut phases = state.phases;
-    for e in 0..count {
-        let cues = ps_stereo_cues::cues(indices, config, layout, e);
-        ps_stereo_envelope::envelope(
-            &coefficients,
-            &directions,
-            layout,
-            modes,
-            cues,
-            &mut phases,
-            e,
-            rows,
-        );
-    }
-    phases
-}
-
-// The envelopes, of which the last one's coefficients are kept.
-fn advance(
-    layout: Layout,
-    modes: Modes,
-    config: Config,
-    indices: PsIndices,
-    count: usize,
-    state: PsStereo,
-    rows: &mut [f64; limits::MATRICES],
-) -> PsStereo
-    requires { ⌜ Ready layout modes config indices count state (now rows) ⌝ }
-    ensures state { λ r. ⌜ r ≡ stereoAfter layout modes config indices state count ⌝ }
-    ensures rows { λ _. ⌜ now (rows .exit) ≡ rowsAfter layout modes config indices state count (now (rows .entry)) ⌝ }
-{
-    let phases = envelopes(layout, modes, config, indices, count, state, rows);
-    let mut matrices = state.matrices;
-    let bands = layout.bands();
-    copy(8 * bands, 272 * count, rows, &mut matrices);
-    PsStereo {
-        matrices: matrices,
-        phases: phases,
+    for b in 0..bands {
+        let source = run * b + at;
+        let target = wide * b;
+        eight(&from[source..source + 8], &mut to[target..target + 8]);
     }
 }
 
@@ -99,25 +45,67 @@ fn modes_of(header: Header) -> Modes
     }
 }
 
-// The borders of a frame's envelopes, cut to the limit: the rows get the kept coefficients and those of each envelope, the state those of the last one.
+// The envelopes, one after the other. The table of coefficients is made once.
+fn envelopes(
+    layout: Layout,
+    header: Header,
+    indices: PsIndices,
+    count: usize,
+    directions: &[i64],
+    phases: &mut [i8],
+    rows: &mut [f64],
+)
+    requires { ⌜ (count ≤ limits.envelopes) × (4 * bandsOf layout ≤ length (now phases)) × (limits.course * bandsOf layout ≤ length (now rows)) ⌝ }
+    ensures { λ _. ⌜ Advanced layout header indices (now (directions .entry)) (now (phases .entry)) (now (rows .entry)) count (now (phases .exit)) (now (rows .exit)) ⌝ }
+{
+    let coefficients = mixing_table::table();
+    let modes = modes_of(header);
+    let config = header.config;
+    for e in 0..count {
+        let cues = ps_stereo_cues::cues(indices, config, layout, e);
+        ps_stereo_envelope::envelope(
+            &coefficients,
+            directions,
+            layout,
+            modes,
+            cues,
+            phases,
+            e,
+            rows,
+        );
+    }
+}
+
+// The borders of a frame's envelopes, cut to the limit, from a lent table of directions: each band's course gets the kept coefficients and those of each
+// envelope; the last ones are kept. Nothing changes where a list has no room for the layout's bands.
 pub fn coefficients(
     layout: Layout,
     header: Header,
     indices: PsIndices,
-    state: PsStereo,
-    rows: &mut [f64; limits::MATRICES],
-) -> PsStereo
-    ensures state { λ r. ⌜ r ≡ stereoAfter layout (modesOf header) (header .config) indices state (min (header .envelopes) limits.envelopes) ⌝ }
-    ensures rows { λ _. ⌜ now (rows .exit)
-        ≡ rowsAfter layout (modesOf header) (header .config) indices state (min (header .envelopes) limits.envelopes) (now (rows .entry)) ⌝ }
+    directions: &[i64],
+    matrices: &mut [f64],
+    phases: &mut [i8],
+    rows: &mut [f64],
+)
+    ensures matrices { λ _. ⌜ now (matrices .exit) ≡ matricesAfter layout header indices (now (directions .entry)) (now (matrices .entry)) (now (phases .entry)) (now (rows .entry)) ⌝ }
+    ensures phases { λ _. ⌜ now (phases .exit) ≡ phasesAfter layout header indices (now (directions .entry)) (now (matrices .entry)) (now (phases .entry)) (now (rows .entry)) ⌝ }
+    ensures rows { λ _. ⌜ now (rows .exit) ≡ rowsAfter layout header indices (now (directions .entry)) (now (matrices .entry)) (now (phases .entry)) (now (rows .entry)) ⌝ }
 {
-    let envelopes = limits::least(header.envelopes as usize, limits::ENVELOPES);
-    let matrices = state.matrices;
-    start(layout, &matrices, rows);
-    if envelopes == 0 {
-        return state;
+    let bands = layout.bands();
+    if matrices.len() < 8 * bands {
+        return;
     }
-    let config = header.config;
-    let modes = modes_of(header);
-    advance(layout, modes, config, indices, envelopes, state, rows)
+    if phases.len() < 4 * bands {
+        return;
+    }
+    if rows.len() < limits::COURSE * bands {
+        return;
+    }
+    copy(bands, matrices, 8, 0, rows, limits::COURSE);
+    let count = limits::least(header.envelopes as usize, limits::ENVELOPES);
+    if count == 0 {
+        return;
+    }
+    envelopes(layout, header, indices, count, directions, phases, rows);
+    copy(bands, rows, limits::COURSE, 8 * count, matrices, 8);
 }

@@ -1,4 +1,3 @@
 pub mod Matrices
-pub mod Moves
-pub mod Filling
-pub mod Kept
+pub mod Courses
+pub mod Fits

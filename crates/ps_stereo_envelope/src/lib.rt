@@ -5,15 +5,16 @@ use standard::Cues;
 use standard::Matrix;
 use standard::Modes;
 ghost use mathlib.Core.Path.{_≡_};
-ghost use mathlib.Core.Bool.{cond};
-ghost use Prim.Native.Nat.{_+_, _<_, _≤_};
+ghost use Prim.Native.Nat.{_*_, _<_, _≤_};
 ghost use lib.ListN.{length};
 ghost use Rattle.complex.specs.Operations.{product, conjugate};
+ghost use Rattle.limits.specs.Limits as limits;
 ghost use Rattle.planar.specs.Frame.{numbersOf};
 ghost use Rattle.standard.specs.Numbers.{naturalOf};
-ghost use Rattle.standard.specs.Mixing.{levelOf, unrotated, directionOf, rotatedBy, matrixFrom};
-ghost use Rattle.ps_stereo_envelope.specs.Envelope.{keptOf, numbersAt, rowsAfter, keptAfter};
-ghost use Rattle.ps_stereo_envelope.specs.Loops.{cueIn, before, Room, filled, Moved};
+ghost use Rattle.standard.specs.Mixing.{levelOf, unrotated, directionOf, rotatedBy};
+ghost use Rattle.layout.specs.Numbers.{bandsOf};
+ghost use Rattle.ps_stereo_envelope.specs.Envelope.{rowsAfter, keptAfter, rowsThen, keptThen, matrixAt, phasesThen};
+ghost use Rattle.ps_stereo_envelope.specs.Loops.{cueIn, before};
 
 // The mapped indices of one band.
 struct Indices {
@@ -75,14 +76,14 @@ fn base(coefficients: &[i64; 2944], modes: Modes, indices: Indices) -> Matrix
     }
 }
 
-// e^(jφ) of the smoothed phase.
-fn direction(directions: &[i64; 1024], oldest: i8, previous: i8, current: i8) -> Complex
-    ensures { λ r. ⌜ r ≡ directionOf (now (directions .entry)) (before oldest previous) current ⌝ }
+// e^(jφ) of the smoothed phase, from a kind's oldest and previous index and the current one.
+fn direction(directions: &[i64], kept: &[i8], current: i8) -> Complex
+    requires { ⌜ length (now kept) ≡ 2 ⌝ }
+    ensures { λ r. ⌜ r ≡ directionOf (now (directions .entry)) (before (now (kept .entry))) current ⌝ }
 {
-    let first = natural_index(oldest);
-    let second = natural_index(previous);
-    let third = natural_index(current);
-    phase_table::direction(directions, first, second, third)
+    let oldest = natural_index(kept[0]);
+    let previous = natural_index(kept[1]);
+    phase_table::direction(directions, oldest, previous, natural_index(current))
 }
 
 // r1 is the OPD direction, r2 its product with the conjugate IPD direction: r1 turns h11 and h21, r2 turns h12 and h22.
@@ -99,25 +100,24 @@ fn rotated(h: Matrix, opd: Complex, ipd: Complex) -> Matrix
     }
 }
 
-// Band b's coefficients.
+// A band's coefficients, with its four phase indices.
 fn matrix(
     coefficients: &[i64; 2944],
-    directions: &[i64; 1024],
+    directions: &[i64],
     modes: Modes,
     indices: Indices,
-    phases: &[i8; 136],
-    b: usize,
+    phases: &[i8],
 ) -> Matrix
-    requires { ⌜ b < 34 ⌝ }
-    ensures { λ r. ⌜ r ≡ matrixFrom (now (coefficients .entry)) (now (directions .entry)) modes (keptOf (now (phases .entry)) b) (cueIn indices) ⌝ }
+    requires { ⌜ length (now phases) ≡ 4 ⌝ }
+    ensures { λ r. ⌜ r ≡ matrixAt (now (coefficients .entry)) (now (directions .entry)) modes (cueIn indices) (now (phases .entry)) ⌝ }
 {
     let h = base(coefficients, modes, indices);
     let phase = modes.phase;
     if !phase {
         return h;
     }
-    let opd = direction(directions, phases[68 + b], phases[102 + b], indices.opd);
-    let ipd = direction(directions, phases[b], phases[34 + b], indices.ipd);
+    let opd = direction(directions, &phases[2..4], indices.opd);
+    let ipd = direction(directions, &phases[0..2], indices.ipd);
     rotated(h, opd, ipd)
 }
 
@@ -135,20 +135,40 @@ fn store(h: Matrix, out: &mut [f64])
     out[7] = h.h22.im;
 }
 
-// The numbers of the first bands, from a place on.
-fn fill(
+// In a frame with phase the previous index of each kind becomes the oldest, the current one the previous.
+fn shift(phase: bool, indices: Indices, phases: &mut [i8])
+    requires { ⌜ length (now phases) ≡ 4 ⌝ }
+    ensures { λ _. ⌜ now (phases .exit) ≡ phasesThen phase (cueIn indices) (now (phases .entry)) ⌝ }
+{
+    if !phase {
+        return;
+    }
+    let ipd_before = phases[1];
+    let opd_before = phases[3];
+    let ipd = indices.ipd;
+    let opd = indices.opd;
+    phases[0] = ipd_before;
+    phases[1] = ipd;
+    phases[2] = opd_before;
+    phases[3] = opd;
+}
+
+// The bands of a layout, one after the other.
+fn each(
     coefficients: &[i64; 2944],
-    directions: &[i64; 1024],
+    directions: &[i64],
+    layout: Layout,
     modes: Modes,
     cues: Cues,
-    phases: &[i8; 136],
-    bands: usize,
-    at: usize,
+    phases: &mut [i8],
+    e: usize,
     rows: &mut [f64],
 )
-    requires { ⌜ Room bands at (now rows) ⌝ }
-    ensures { λ _. ⌜ now (rows .exit) ≡ filled (numbersAt (now (coefficients .entry)) (now (directions .entry)) modes cues (now (phases .entry))) bands at (now (rows .entry)) ⌝ }
+    requires { ⌜ (e < limits.envelopes) × (4 * bandsOf layout ≤ length (now phases)) × (limits.course * bandsOf layout ≤ length (now rows)) ⌝ }
+    ensures phases { λ _. ⌜ now (phases .exit) ≡ keptThen layout modes cues (now (phases .entry)) ⌝ }
+    ensures rows { λ _. ⌜ now (rows .exit) ≡ rowsThen (now (coefficients .entry)) (now (directions .entry)) layout modes cues (now (phases .entry)) e (now (rows .entry)) ⌝ }
 {
+    let bands = layout.bands();
     for b in 0..bands {
         let indices = Indices {
             iid: cues.iid[b],
@@ -156,62 +176,47 @@ fn fill(
             ipd: cues.ipd[b],
             opd: cues.opd[b],
         };
-        let h = matrix(coefficients, directions, modes, indices, phases, b);
-        let from = at + 8 * b;
-        store(h, &mut rows[from..from + 8]);
+        let p = 4 * b;
+        let at = limits::COURSE * b + 8 * (e + 1);
+        let h = matrix(coefficients, directions, modes, indices, &phases[p..p + 4]);
+        store(h, &mut rows[at..at + 8]);
+        shift(modes.phase, indices, &mut phases[p..p + 4]);
     }
 }
 
-// The phase indices of one kind, from a place on: the previous become the oldest, the current the previous.
-fn shift(phases: &mut [i8], at: usize, current: [i8; 34], bands: usize)
-    requires { ⌜ (at + 68 ≤ length (now phases)) × (bands ≤ 34) ⌝ }
-    ensures { λ _. ⌜ Moved at bands current (now (phases .entry)) (now (phases .exit)) ⌝ }
-{
-    for b in 0..bands {
-        let previous = phases[at + 34 + b];
-        phases[at + b] = previous;
-        phases[at + 34 + b] = current[b];
-    }
-}
-
-// How many bands' phase indices move: none in a frame without phase.
-fn moving(phase: bool, bands: usize) -> usize
-    ensures { λ r. ⌜ r ≡ cond phase bands 0 ⌝ }
-{
-    if phase { bands } else { 0 }
-}
-
-// Envelope e of a frame, from the lent tables of coefficients and directions.
+// Envelope e of a frame, from lent tables of coefficients and directions. Nothing changes where the phase indices or the rows have no room for the
+// layout's bands.
 pub fn envelope(
     coefficients: &[i64; 2944],
-    directions: &[i64; 1024],
+    directions: &[i64],
     layout: Layout,
     modes: Modes,
     cues: Cues,
-    phases: &mut [i8; 136],
+    phases: &mut [i8],
     e: usize,
-    rows: &mut [f64; limits::MATRICES],
+    rows: &mut [f64],
 )
-    ensures phases { λ _. ⌜ now (phases .exit) ≡ keptAfter layout modes cues (now (phases .entry)) e ⌝ }
+    ensures phases { λ _. ⌜ now (phases .exit) ≡ keptAfter layout modes cues (now (phases .entry)) e (now (rows .entry)) ⌝ }
     ensures rows { λ _. ⌜ now (rows .exit) ≡ rowsAfter (now (coefficients .entry)) (now (directions .entry)) layout modes cues (now (phases .entry)) e (now (rows .entry)) ⌝ }
 {
+    let bands = layout.bands();
     if limits::ENVELOPES <= e {
         return;
     }
-    let bands = layout.bands();
-    fill(
+    if phases.len() < 4 * bands {
+        return;
+    }
+    if rows.len() < limits::COURSE * bands {
+        return;
+    }
+    each(
         coefficients,
         directions,
+        layout,
         modes,
         cues,
         phases,
-        bands,
-        272 * (e + 1),
+        e,
         rows,
     );
-    let count = moving(modes.phase, bands);
-    let ipd = cues.ipd;
-    shift(phases, 0, ipd, count);
-    let opd = cues.opd;
-    shift(phases, 68, opd, count);
 }

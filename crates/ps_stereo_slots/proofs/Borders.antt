@@ -21,7 +21,6 @@ use Rattle.planar.specs.Cells.{overwritten}
 use Rattle.planar.specs.Frame.{matrixRuns}
 use Rattle.standard.specs.declared.Matrix.{Matrix}
 use Rattle.standard.specs.Interpolation.{start, borderAt, fraction, filledBy, matrixBy}
-use Rattle.ps_stereo_slots.specs.Regions.{filledFractions}
 
 pub start-after : (borders : List ℕ) (e : ℕ) → (e ≡ 0 → ⊥) → start borders e ≡ suc (getD borders (e - 1) 0)
 start-after borders zero some = absurd (some refl)
@@ -45,7 +44,8 @@ module _ (borders : List ℕ) (m : ℕ) where
   fraction-taken e n h = rw (start-taken e (omega arith), getD-take m borders e 0 h)
 
   -- what one loop over the places writes is what the envelopes say
-  pub fractions-taken : (out : List Float) → filledFractions borders m out
+  pub fractions-taken : (out : List Float)
+      → tabulate (λ i. cond (ltb i (32 * m)) (fraction borders (i / 32) (i % 32)) (getD out i nan)) limits.fractions
       ≡ tabulate (λ i. cond (ltb (i / 32) m) (fraction (take m borders) (i / 32) (i % 32)) (getD out i nan)) limits.fractions
   fractions-taken out = tabulate-same _ _ limits.fractions (λ i u. by i (ltb i (32 * m)) refl)
     where

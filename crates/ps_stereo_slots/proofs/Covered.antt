@@ -9,7 +9,12 @@ use lib.Dec.{leb}
 use lib.Ieee.{Float}
 use Rattle.standard.specs.declared.Matrix.{Matrix}
 use Rattle.standard.specs.Interpolation.{start, borderAt, between, filledBy}
-use Rattle.ps_stereo_slots.specs.Regions.{filledOver}
+
+-- slot n after the regions of e envelopes, as `filledBy` of the standard, from what was there
+unfoldable pub filledOver : List ℕ → (ℕ → ℕ → Float) → (ℕ → Matrix) → (ℕ → Matrix) → ℕ → ℕ → Matrix
+filledOver borders t h old n zero = old n
+filledOver borders t h old n (suc e) =
+    cond (leb (start borders e) n && leb n (borderAt borders e)) (between (h e) (h (suc e)) (t e n)) (filledOver borders t h old n e)
 
 module _ (borders : List ℕ) (t : ℕ → ℕ → Float) (h : ℕ → Matrix) (old : ℕ → Matrix) (n : ℕ) where
   pub covered : (e : ℕ) → n < start borders e → filledOver borders t h old n e ≡ filledBy borders t h n e

@@ -14,9 +14,9 @@ use Rattle.planar.specs.Cells.{overwritten}
 use Rattle.planar.specs.Frame.{matrixAt, matrixRuns}
 use Rattle.standard.specs.declared.Matrix.{Matrix}
 use Rattle.standard.specs.Interpolation.{start, borderAt, between, filledBy}
-use Rattle.ps_stereo_slots.specs.Regions.{storedMatrix, interpolated, Written, filledOver}
+use Rattle.ps_stereo_slots.specs.Regions.{storedMatrix, Written}
 use Rattle.ps_stereo_slots.proofs.Runs.{slot-length, slot-same, slot-other, runs-are}
-use Rattle.ps_stereo_slots.proofs.Covered.{covered}
+use Rattle.ps_stereo_slots.proofs.Covered.{filledOver, covered}
 
 -- ---- the loop over a region's slots
 pub written-none : (first : ℕ) (new : ℕ → Matrix) (old : List Float) → length old ≡ 256 → Written first first new old old
@@ -86,19 +86,22 @@ module _ (borders : List ℕ) (t : ℕ → ℕ → Float) (h : ℕ → Matrix) (
 
     -- a region as it is lent: its coefficients, its slots and its fractions are the envelope's
     pub region-filled : (from to : Matrix) (slice : List Float) (first end : ℕ) → from ≡ h e → to ≡ h (e + 1) → first ≡ start borders e → end ≡ min (borderAt borders e + 1) slots
-        → ((n : ℕ) → n < 32 → getD slice n nan ≡ t e n) → Written first end (interpolated from to slice) runs next → Filled (e + 1) next
+        → ((n : ℕ) → n < 32 → getD slice n nan ≡ t e n) → Written first end (λ n. between from to (getD slice n nan)) runs next → Filled (e + 1) next
     region-filled from to slice first end p q place last s w =
         let q' : to ≡ h (suc e) = rw (add-one e) at q in
         let last' : end ≡ min (suc (borderAt borders e)) slots = rw (add-one (borderAt borders e)) at last in
-        rw (add-one e) (filled-more (interpolated from to slice) end (λ n u. λ i. between (p i) (q' i) (s n u i)) last' (rw place at w))
+        rw (add-one e) (filled-more (λ n. between from to (getD slice n nan)) end (λ n u. λ i. between (p i) (q' i) (s n u i)) last' (rw place at w))
 
     -- the slots after the last border hold
-    pub filled-held : (new : Matrix) → new ≡ h e → Written (start borders e) slots (λ n. new) runs next
+    pub filled-held : (new : Matrix) (first : ℕ) → new ≡ h e → first ≡ start borders e → Written first slots (λ n. new) runs next
         → next ≡ matrixRuns (overwritten slots (λ n. cond (leb (start borders e) n) (h e) (filledBy borders t h n e)) (matrixAt old))
-    filled-held new is w =
-        runs-are next (overwritten slots (λ n. cond (leb (start borders e) n) (h e) (filledBy borders t h n e)) (matrixAt old)) (w .long)
+    filled-held new first is place held =
+        runs-are next (overwritten slots (λ n. cond (leb (start borders e) n) (h e) (filledBy borders t h n e)) (matrixAt old)) (held .long)
         (λ n u. by n u (ltb n slots) refl (leb (start borders e) n) refl)
       where
+        w : Written (start borders e) slots (λ n. new) runs next
+        w = rw place at held
+
         by : (n : ℕ) → n < 32 → (a : Bool) → ltb n slots ≡ a → (b : Bool) → leb (start borders e) n ≡ b
             → matrixAt next n ≡ cond a (cond b (h e) (filledBy borders t h n e)) (matrixAt old n)
         by n u false p b q = left n u false p (w .behind n u (ltb-false n slots p))

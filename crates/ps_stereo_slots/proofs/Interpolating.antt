@@ -4,7 +4,7 @@ use mathlib.Core.Bool.{cond}
 use mathlib.Core.List.{List}
 use Prim.Native.Nat.{ℕ, zero, suc, _+_, _*_, _/_, _%_, _<_, _≤_, min}
 use native.Mathlib.Omega.{arith}
-use borrow.Author.Tests.{lt-ltb}
+use borrow.Author.Tests.{lt-ltb, le-leb}
 use lib.Dec.{ltb}
 use lib.Ieee.{Float, nan}
 use lib.ListN.{length, getD, length-take}
@@ -51,8 +51,8 @@ pub coefficients-made : (rows fractions : List Float) (borders : List ℕ) (coun
 unfolding runsAfter
 coefficients-made rows fractions borders count slots band old few =
     record {
-      slot = λ there n h.
-          rw (lt-ltb band 34 there)
+      slot = λ there room n h.
+          rw (lt-ltb band 34 there, le-leb (limits.course * band + limits.course) (length rows) room)
           (matrix-read (overwritten slots (λ m. matrixBy (bordersOf borders count) (fractionAt fractions) (borderMatrix rows band) m) (matrixAt old)) n (omega arith)
           ∙ rw (lt-ltb n slots h));
     }

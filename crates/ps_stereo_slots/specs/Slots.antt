@@ -1,11 +1,11 @@
--- §8.6.4.6.4: a band's coefficients in each slot of a frame, from those at the borders. The rows: for each border 272 numbers, eight for each of 34
--- bands; row 0 are the kept coefficients, row e + 1 those of envelope e. Assumes nothing.
+-- §8.6.4.6.4: a band's coefficients in each slot of a frame, from those at the borders. The rows: for each band its
+-- course, eight numbers at each border, first the kept coefficients, then those of each envelope. Assumes nothing.
 use Prim.Native.Nat.{ℕ, _+_, _*_, _/_, _%_, min}
-use mathlib.Core.Bool.{cond}
+use mathlib.Core.Bool.{cond, _&&_}
 use mathlib.Core.List.{List}
-use lib.Dec.{ltb}
+use lib.Dec.{leb, ltb}
 use lib.Ieee.{Float, nan}
-use lib.ListN.{take, getD}
+use lib.ListN.{length, take, getD}
 use Rattle.limits.specs.Limits as limits
 use Rattle.lists.specs.Part.{part}
 use Rattle.lists.specs.Rows.{tabulate}
@@ -28,11 +28,11 @@ fractionAt fractions e n = getD fractions (32 * e + n) nan
 
 -- a band's coefficients at the border before envelope e
 abbrev pub borderMatrix : List Float → ℕ → ℕ → Matrix
-borderMatrix rows band e = keptMatrix (part (272 * e + 8 * band) 8 rows)
+borderMatrix rows band e = keptMatrix (part (limits.course * band + 8 * e) 8 rows)
 
 -- a band's coefficients slot by slot, four runs of 32, of which the frame's slots are written
 unfoldable pub runsAfter : List Float → List Float → List ℕ → ℕ → ℕ → ℕ → List Float → List Float
 runsAfter rows fractions borders count band slots out =
-    cond (ltb band 34)
+    cond (ltb band 34 && leb (limits.course * band + limits.course) (length rows))
     (matrixRuns (overwritten slots (λ n. matrixBy (bordersOf borders count) (fractionAt fractions) (borderMatrix rows band) n) (matrixAt out)))
     out

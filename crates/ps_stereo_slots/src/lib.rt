@@ -1,16 +1,21 @@
 // A band's mixing coefficients in each slot of a frame (source document 000, §8.6.4.6.4): interpolated between borders, then held.
 use complex::Complex;
 use standard::Matrix;
+ghost use mathlib.Core.Bool.{cond};
 ghost use mathlib.Core.Path.{_≡_};
-ghost use Prim.Native.Nat.{_+_, _-_, _*_, _≤_, _<_, min, max};
-ghost use lib.ListN.{length};
+ghost use Prim.Native.Nat.{_+_, _-_, _*_, _/_, _%_, _≤_, _<_, min, max};
+ghost use lib.Dec.{leb, ltb};
+ghost use lib.Ieee.{nan};
+ghost use lib.ListN.{length, getD};
 ghost use Rattle.limits.specs.Limits as limits;
 ghost use Rattle.lists.specs.Part.{part};
-ghost use Rattle.planar.specs.Frame.{keptMatrix};
-ghost use Rattle.standard.specs.Interpolation.{fraction};
+ghost use Rattle.lists.specs.Rows.{tabulate};
+ghost use Rattle.planar.specs.Cells.{overwritten};
+ghost use Rattle.planar.specs.Frame.{matrixAt, matrixRuns, keptMatrix};
+ghost use Rattle.standard.specs.Interpolation.{start, fraction, between, filledBy};
 ghost use Rattle.ps_stereo_slots.specs.Envelopes.{inRegion, regionBelow, regionOf};
-ghost use Rattle.ps_stereo_slots.specs.Slots.{fractionsAfter, runsAfter};
-ghost use Rattle.ps_stereo_slots.specs.Regions.{stepOf, stepped, storedMatrix, Written, Started, interpolated, filledFractions, heldAfter};
+ghost use Rattle.ps_stereo_slots.specs.Slots.{fractionsAfter, fractionAt, runsAfter};
+ghost use Rattle.ps_stereo_slots.specs.Regions.{stepOf, stepped, storedMatrix, Written, rowMatrix};
 
 // When a frame is: the borders of its envelopes, how many envelopes there are, its slots, and how many slots came before it.
 pub struct Timing {
@@ -32,7 +37,7 @@ fn after(border: u8) -> u16
 // The first slot after the border before envelope e.
 fn first_slot(borders: [u8; limits::ENVELOPES], e: usize) -> u16
     requires { ⌜ e < limits.envelopes ⌝ }
-    ensures { λ r. ⌜ Started borders e r ⌝ }
+    ensures { λ r. ⌜ (r ≡ start borders e) × (r ≤ 256) ⌝ }
 {
     if e == 0 {
         return 0;
@@ -65,7 +70,8 @@ fn fraction_of(borders: [u8; limits::ENVELOPES], e: usize, n: usize) -> f64
 
 fn fill(borders: [u8; limits::ENVELOPES], count: usize, out: &mut [f64])
     requires { ⌜ (count ≤ limits.envelopes) × (length (now out) ≡ limits.fractions) ⌝ }
-    ensures { λ _. ⌜ now (out .exit) ≡ filledFractions borders count (now (out .entry)) ⌝ }
+    ensures { λ _. ⌜ now (out .exit)
+        ≡ tabulate (λ i. cond (ltb i (32 * count)) (fraction borders (i / 32) (i % 32)) (getD (now (out .entry)) i nan)) limits.fractions ⌝ }
 {
     for i in 0..32 * count {
         out[i] = fraction_of(borders, i / 32, i % 32);
@@ -241,7 +247,7 @@ fn put(out: &mut [f64], n: usize, h: Matrix)
 // The slots from `first` to before `end`, on the way from one border's coefficients to the next one's.
 fn region(from: Matrix, to: Matrix, fractions: &[f64], first: usize, end: usize, out: &mut [f64])
     requires { ⌜ (length (now fractions) ≡ 32) × (end ≤ 32) × (length (now out) ≡ 256) ⌝ }
-    ensures { λ _. ⌜ Written first end (interpolated from to (now (fractions .entry))) (now (out .entry)) (now (out .exit)) ⌝ }
+    ensures { λ _. ⌜ Written first end (λ n. between from to (getD (now (fractions .entry)) n nan)) (now (out .entry)) (now (out .exit)) ⌝ }
 {
     let way = step(from, to);
     for n in first..end {
@@ -259,7 +265,7 @@ fn hold(h: Matrix, first: usize, end: usize, out: &mut [f64])
     }
 }
 
-// A band whose rows stand at `at`: each envelope's region, then the slots after the last border.
+// A band whose course stands at `at`: each envelope's region, then the slots after the last border.
 fn envelopes(
     rows: &[f64],
     at: usize,
@@ -269,15 +275,16 @@ fn envelopes(
     slots: usize,
     out: &mut [f64],
 )
-    requires { ⌜ (length (now rows) ≡ limits.matrices) × (at + 8 ≤ 272) × (length (now fractions) ≡ limits.fractions) ⌝ }
+    requires { ⌜ (at + limits.course ≤ length (now rows)) × (length (now fractions) ≡ limits.fractions) ⌝ }
     requires { ⌜ (count ≤ limits.envelopes) × (slots ≤ 32) × (length (now out) ≡ 256) ⌝ }
-    ensures { λ _. ⌜ now (out .exit) ≡ heldAfter (now (rows .entry)) at (now (fractions .entry)) borders count slots (now (out .entry)) ⌝ }
+    ensures { λ _. ⌜ now (out .exit) ≡ matrixRuns (overwritten slots (λ n. cond (leb (start borders count) n) (rowMatrix (now (rows .entry)) at count)
+        (filledBy borders (fractionAt (now (fractions .entry))) (rowMatrix (now (rows .entry)) at) n count)) (matrixAt (now (out .entry)))) ⌝ }
 {
     let mut from = matrix_at(rows, at);
     let mut first = 0;
     for e in 0..count {
         let next = after(borders[e]) as usize;
-        let to = matrix_at(rows, 272 * (e + 1) + at);
+        let to = matrix_at(rows, at + 8 * (e + 1));
         region(
             from,
             to,
@@ -292,9 +299,9 @@ fn envelopes(
     hold(from, first, slots, out);
 }
 
-// A band of 34 over at most 32 slots, envelopes cut to the limit.
+// A band of 34 over at most 32 slots, envelopes cut to the limit. Nothing changes where the rows have no course of the band.
 pub fn interpolate(
-    rows: &[f64; limits::MATRICES],
+    rows: &[f64],
     fractions: &[f64; limits::FRACTIONS],
     borders: [u8; limits::ENVELOPES],
     count: usize,
@@ -307,7 +314,11 @@ pub fn interpolate(
     if 34 <= band {
         return;
     }
+    let at = limits::COURSE * band;
+    if rows.len() < at + limits::COURSE {
+        return;
+    }
     let used = limits::least(count, limits::ENVELOPES);
     let slots = limits::least(slots, 32);
-    envelopes(rows, 8 * band, fractions, borders, used, slots, out);
+    envelopes(rows, at, fractions, borders, used, slots, out);
 }

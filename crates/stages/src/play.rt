@@ -6,6 +6,7 @@ use super::plain;
 use super::sound;
 use cue::Header;
 use layout::Layout;
+use ps_data::PsIndices;
 use ps_data::PsLines;
 use ps_data::Resolved;
 use ps_decorr::PsDecorr;
@@ -27,6 +28,18 @@ struct Heard {
     decorrelated: [f64; 3200],
 }
 
+// The factors of ducking, and the detectors after a frame.
+fn detect(
+    layout: Layout,
+    split: &[f64; 2048],
+    input: &[f64],
+    slots: usize,
+    detectors: &mut [f64; 102],
+    gains: &mut [f64; 1088],
+) {
+    ps_decorr_transient::duck(layout, detectors, split, input, slots, gains);
+}
+
 fn hear(state: PsDecoder, slots: usize, input: &[f64]) -> Heard
     requires { ⌜ slots ≤ 32 ⌝ }
 {
@@ -37,7 +50,7 @@ fn hear(state: PsDecoder, slots: usize, input: &[f64]) -> Heard
     let decorr = state.decorr;
     let mut detectors = decorr.detectors;
     let mut gains = [0.0; 1088];
-    ps_decorr_transient::duck(layout, &mut detectors, &split, input, slots, &mut gains);
+    detect(layout, &split, input, slots, &mut detectors, &mut gains);
     let mut samples = [0.0; 3200];
     plain::samples(layout, &split, input, slots, &mut samples);
     let mut delays = decorr.delays;
@@ -53,36 +66,6 @@ fn hear(state: PsDecoder, slots: usize, input: &[f64]) -> Heard
         gains: gains,
         decorrelated: out,
     }
-}
-
-// Every all-pass channel's left and right.
-fn mix(
-    state: PsDecoder,
-    header: Header,
-    positions: [u8; limits::ENVELOPES],
-    rows: &[f64; limits::MATRICES],
-    samples: &[f64; 3200],
-    gains: &[f64; 1088],
-    decorrelated: &[f64; 3200],
-    left: &mut [f64; 3200],
-    right: &mut [f64; 3200],
-) {
-    let layout = state.layout;
-    let envelopes = header.envelopes as usize;
-    let borders = borders::borders(state.asked, header.variable, envelopes, positions);
-    let slots = borders::slots(state.asked);
-    sound::mix(
-        layout,
-        borders,
-        envelopes,
-        rows,
-        samples,
-        decorrelated,
-        gains,
-        slots,
-        left,
-        right,
-    );
 }
 
 // The decoder after a frame.
@@ -106,6 +89,32 @@ fn after(
     }
 }
 
+// The rows of coefficients of a frame, and what is kept after it.
+fn coefficients(
+    layout: Layout,
+    header: Header,
+    indices: PsIndices,
+    kept: PsStereo,
+    rows: &mut [f64; limits::MATRICES],
+) -> PsStereo {
+    let mut matrices = kept.matrices;
+    let mut phases = kept.phases;
+    let directions = phase_table::table();
+    ps_stereo_borders::coefficients(
+        layout,
+        header,
+        indices,
+        &directions,
+        &mut matrices,
+        &mut phases,
+        rows,
+    );
+    PsStereo {
+        matrices: matrices,
+        phases: phases,
+    }
+}
+
 // The plain delays over their memory, into the frame's rows of both sides.
 fn delays(
     layout: Layout,
@@ -113,8 +122,7 @@ fn delays(
     input: &[f64],
     gains: &[f64; 1088],
     rows: &[f64; limits::MATRICES],
-    long: &mut [f64; 336],
-    short: &mut [f64; 58],
+    memory: &mut [f64; 394],
     left: &mut [f64],
     right: &mut [f64],
 )
@@ -127,8 +135,7 @@ fn delays(
         input,
         gains,
         rows,
-        long,
-        short,
+        memory,
         &mut left[0..numbers],
         &mut right[0..numbers],
     );
@@ -158,8 +165,7 @@ fn synthesise(
     rows: &[f64; limits::MATRICES],
     lefts: &[f64; 3200],
     rights: &[f64; 3200],
-    long: &mut [f64; 336],
-    short: &mut [f64; 58],
+    memory: &mut [f64; 394],
     left: &mut [f64; 4096],
     right: &mut [f64; 4096],
 )
@@ -167,7 +173,7 @@ fn synthesise(
 {
     plain::synthesise(layout, lefts, timing.slots, left);
     plain::synthesise(layout, rights, timing.slots, right);
-    delays(layout, timing, input, gains, rows, long, short, left, right);
+    delays(layout, timing, input, gains, rows, memory, left, right);
 }
 
 // A frame of the asked slots against the stream, stage by stage.
@@ -206,27 +212,25 @@ pub fn play(ready: PsDecoder, header: Header, resolved: Resolved, input: &[f64])
     let positions = resolved.positions;
     let mut rows = [0.0; limits::MATRICES];
     let kept = ready.stereo;
-    let stereo = ps_stereo_borders::coefficients(layout, header, indices, kept, &mut rows);
+    let stereo = coefficients(layout, header, indices, kept, &mut rows);
+    let timing = timing(ready, header, positions);
     let mut lefts = [0.0; 3200];
     let mut rights = [0.0; 3200];
-    mix(
-        ready,
-        header,
-        positions,
+    sound::mix(
+        layout,
+        timing,
         &rows,
         &samples,
-        &gains,
         &decorrelated,
+        &gains,
         &mut lefts,
         &mut rights,
     );
-    sound::duck(layout, &gains, slots, &mut decorrelated);
+    sound::duck(layout, &gains, timing.slots, &mut decorrelated);
     let decorr = ready.decorr;
-    let mut long = decorr.long;
-    let mut short = decorr.short;
+    let mut memory = decorr.plain;
     let mut left = [0.0; 4096];
     let mut right = [0.0; 4096];
-    let timing = timing(ready, header, positions);
     synthesise(
         layout,
         timing,
@@ -235,8 +239,7 @@ pub fn play(ready: PsDecoder, header: Header, resolved: Resolved, input: &[f64])
         &rows,
         &lefts,
         &rights,
-        &mut long,
-        &mut short,
+        &mut memory,
         &mut left,
         &mut right,
     );
@@ -255,15 +258,14 @@ pub fn play(ready: PsDecoder, header: Header, resolved: Resolved, input: &[f64])
     let history = heard.history;
     let delays = heard.delays;
     let detectors = heard.detectors;
-    let memory = PsDecorr {
+    let decorr_after = PsDecorr {
         turn: heard.turn,
         delays: delays,
-        long: long,
-        short: short,
+        plain: memory,
         detectors: detectors,
     };
     Checked {
-        decoder: after(ready, header.cued, lines, history, memory, stereo),
+        decoder: after(ready, header.cued, lines, history, decorr_after, stereo),
         held: found.held,
         verdict: verdict,
     }

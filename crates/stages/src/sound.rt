@@ -2,6 +2,7 @@
 // QMF bands, which go straight from the input to both sides.
 use super::plain;
 use layout::Layout;
+use ps_stereo_slots::Timing;
 ghost use mathlib.Core.Path.{_≡_};
 ghost use Prim.Native.Nat.{_+_, _*_, _≤_, _<_};
 ghost use lib.ListN.{length};
@@ -130,20 +131,21 @@ fn mix_channel(
 // Every channel, with its band's coefficients in each slot.
 fn mix_all(
     layout: Layout,
-    borders: [u8; limits::ENVELOPES],
-    count: usize,
+    timing: Timing,
     rows: &[f64; limits::MATRICES],
     fractions: &[f64; limits::FRACTIONS],
     samples: &[f64; 3200],
     decorrelated: &[f64],
     gains: &[f64; 1088],
-    slots: usize,
     left: &mut [f64],
     right: &mut [f64],
 )
     requires { ⌜ (length (now decorrelated) ≡ 3200) × ((length (now left) ≡ 3200) × (length (now right) ≡ 3200)) ⌝ }
 {
     let passes = passes_of(layout);
+    let borders = timing.borders;
+    let count = timing.count;
+    let slots = timing.slots;
     for k in 0..passes {
         let band = band_of(layout, k);
         let mut runs = [0.0; 256];
@@ -166,28 +168,25 @@ fn mix_all(
 
 pub fn mix(
     layout: Layout,
-    borders: [u8; limits::ENVELOPES],
-    count: usize,
+    timing: Timing,
     rows: &[f64; limits::MATRICES],
     samples: &[f64; 3200],
     decorrelated: &[f64; 3200],
     gains: &[f64; 1088],
-    slots: usize,
     left: &mut [f64; 3200],
     right: &mut [f64; 3200],
 ) {
     let mut fractions = [0.0; limits::FRACTIONS];
-    ps_stereo_slots::fractions(borders, count, &mut fractions);
+    let borders = timing.borders;
+    ps_stereo_slots::fractions(borders, timing.count, &mut fractions);
     mix_all(
         layout,
-        borders,
-        count,
+        timing,
         rows,
         &fractions,
         samples,
         decorrelated,
         gains,
-        slots,
         left,
         right,
     );

@@ -1,4 +1,4 @@
--- `lefasumu::lefasumu_start` meets its contract: the length is the test, and a state taken apart is that state. Assumes nothing.
+-- `lefasumu::lefasumu_start` meets its contract: the length is the test. Assumes nothing.
 use borrow.Author.Needs.{needs}
 use Rattle.lefasumu.proofs.Calls.{start-refused, start-done}
 use Rattle.lefasumu.proofs.lefasumu_start.Statement.{statement}
@@ -11,16 +11,12 @@ refused c =
 
 done : tie.Need-returns-2
 done c =
-    let store = c .before .before .before in
-    let detectors = store .before .before .before .before .before .before .before in
-    let apart = detectors .before .before .before .before .before .before in
-    let fresh = apart .before in
-    let tested = fresh .before in
+    let stored = c .before .before .before in
+    let tested = stored .before .before in
     let start = tested .before .before in
-    start-done (start .args .memory .now) (start .args .slots) _ (tested .if1 .left) (c .told2 .ensures) (fresh .fresh .result) (apart .apart .result) _
-    (fresh .fresh .ensures) (apart .apart .ensures) (store .store .ensures)
+    start-done (start .args .memory .now) (start .args .slots) _ (tested .if1 .left) (c .told2 .ensures) _ (stored .start .ensures)
 
 pub lefasumu-start-spec : {M : Type 1} → statement M
 lefasumu-start-spec =
     tie.close
-    (tie.spec (λ c κs. search needs) refused (λ c κs. search needs) (λ c κs. search needs) (λ c κs. search needs) (λ c κs. search needs) (λ c. search needs) done)
+    (tie.spec (λ c κs. search needs) refused (λ c κs. search needs) (λ c κs. search needs) (λ c. search needs) done)

@@ -11,8 +11,9 @@ returns c =
     let laid = ran .before .before .before .before .before .before in
     let start = laid .before .before .before .before .before .before .before .before .before in
     let a = start .args in
-    framed (a .layout) (a .timing) (a .table .now) (a .samples .now) (a .gains .now) (a .rows .now) (a .input .now) (a .delays .now) (a .left .now) (a .right .now) _ _ _ _
-    (start .pre .left-long) (start .pre .right-long) (ran .run .ensures .is (a .table .now) (laid .lay .ensures)) (silenced .silence-free .ensures)
+    rw (silenced .silence-free .ensures)
+    (framed (a .layout) (a .timing) (a .table .now) (a .samples .now) (a .gains .now) (a .rows .now) (a .input .now) (a .delays .now) (a .left .now) (a .right .now) _ _ _
+    (start .pre) (ran .run .ensures (a .table .now) (laid .lay .ensures)))
 
 pub frame-spec : {M : Type 1} → statement M
 frame-spec =

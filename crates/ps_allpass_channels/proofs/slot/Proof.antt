@@ -13,7 +13,7 @@ leave-requires c κs =
     let start = entered .before .before .before .before .before .before .before .before .before in
     let kept = c .before .before .before .before .desks2 .given in
     let entered-kept = groups .before .before .before .before .desks .given in
-    ((start .pre .0 .1, omega (arith, kept, entered-kept, start .pre .1 .0 .2)), start .pre .1 .1)
+    ((start .pre .0 .1, omega (arith, kept, entered-kept, start .pre .1 .1 .0 .0)), start .pre .1 .1 .1)
 
 returns : tie.Need-returns
 returns c =
@@ -26,8 +26,9 @@ returns c =
     let m = a .moment in
     let e = entered .enter .ensures in
     passed l (a .samples .now) (a .gains .now) (a .input .now) (m .n) (m .turn) (m .t) (m .held)
-    (a .desks .now) (entered .enter .last .1 .1 .1 .1 .1 .1 .0) _ (a .delays .now) _ (a .left .now) (a .right .now) _ _ (e .0) (e .1 .0) (e .1 .1)
-    (groups .groups .ensures .roomy (omega (arith, start .pre .1 .0 .3, bounds l .groups)) (omega (arith, start .pre .1 .0 .2, e .1 .0 .long, bounds l .groups)))
+    (a .desks .now) (entered .enter .last .1 .1 .1 .1 .1 .1 .0) _ (a .delays .now) _ (a .left .now) (a .right .now) _ _
+    (e .0) (e .1 .0) (e .1 .1 .0) (e .1 .1 .1 .0) (e .1 .1 .1 .1)
+    (groups .groups .ensures .roomy (start .pre .1 .1 .0 .1) (omega (arith, start .pre .1 .1 .0 .0, groups .before .before .before .before .desks .given, bounds l .groups)))
     (leave .leave .ensures .0) (leave .leave .ensures .1)
 
 pub slot-spec : {M : Type 1} → statement M

@@ -56,7 +56,7 @@ loop-again c =
       same = l .inv .same;
       sofar =
           more (a .layout) (a .turn) (a .t) (a .held) (a .delays .now) (a .desks .now) (l .g) (l .delays) (l .desks) (e .group .last .0) (e .group .last .1 .0) room desks-room
-          (search needs) (search needs) (l .inv .sofar) _ (e .before .marks .ensures) (e .group .ensures);
+          (search needs) (search needs) (l .inv .sofar) (e .before .marks .result) (e .before .marks .ensures) (e .group .ensures);
     }
 
 returns : tie.Need-returns Inv-loop μ-loop

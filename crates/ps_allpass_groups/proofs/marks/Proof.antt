@@ -8,7 +8,7 @@ use borrow.Author.Tests.{lt-ltb, le-ltb, ne-eqb}
 use lib.Dec.{eqb}
 use Rattle.layout.specs.declared.Layout.the-variants.{Bands20, Bands34}
 use Rattle.ps_map.specs.Bands.{conjugatedOf}
-use Rattle.ps_allpass_groups.specs.Mixing.{markOf}
+use Rattle.ps_allpass_groups.specs.Lanes.{markOf}
 use Rattle.ps_allpass_groups.proofs.marks.Statement.{statement}
 use Rattle.ps_allpass_groups.proofs.marks.Tie as tie
 
@@ -35,10 +35,10 @@ third (suc (suc (suc g))) i h =
     rw (ne-eqb (suc (suc (suc g))) 2 (λ (e : suc (suc (suc g)) ≡ 2). omega arith), le-ltb k 9 (omega arith), le-ltb k 12 (omega arith))
 
 of-twenty : tie.Need-returns
-of-twenty c = record { is = rw (c .enum-told .given .1) (first (c .before .before .args .g)) }
+of-twenty c = rw (c .enum-told .given .1) (first (c .before .before .args .g))
 
 of-thirty-four : tie.Need-returns-2
-of-thirty-four c = record { is = rw (c .enum-told2 .given .1) (third (c .before .before .args .g)) }
+of-thirty-four c = rw (c .enum-told2 .given .1) (third (c .before .before .args .g))
 
 pub marks-spec : {M : Type 1} → statement M
 marks-spec = tie.close (tie.spec (λ c. search needs) (λ c. search needs) of-twenty of-thirty-four)

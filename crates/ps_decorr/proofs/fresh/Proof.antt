@@ -9,7 +9,7 @@ use Rattle.ps_decorr.proofs.fresh.Tie as tie
 
 -- a state that holds one value everywhere
 abbrev filled : Float → PsDecorr
-filled z = record { turn = 0; delays = replicate 1456 z; long = replicate 336 z; short = replicate 58 z; detectors = replicate 102 z }
+filled z = record { turn = 0; delays = replicate 1456 z; plain = replicate 394 z; detectors = replicate 102 z }
 
 returns : tie.Need-returns
 returns c = ap filled zero-is

@@ -1,11 +1,11 @@
 -- `ps_decorr_transient::clear` meets its contract: each turn clears one row more. Assumes nothing.
-use mathlib.Core.Path.{_≡_, refl}
+use mathlib.Core.Path.{_≡_}
 use Prim.Native.Nat.{_≤_, _-_}
 use borrow.Author.Needs.{needs}
 use native.Mathlib.Omega.{arith}
 use Rattle.standard.specs.Numbers as numbers
 use Rattle.ps_decorr_transient.specs.Rows.{Rowed}
-use Rattle.ps_decorr_transient.proofs.Rows.{rowed-none, rowed-and, rowed-row}
+use Rattle.ps_decorr_transient.proofs.Rows.{rowed-none, rowed-and}
 use Rattle.ps_decorr_transient.proofs.clear.Statement.{statement}
 use Rattle.ps_decorr_transient.proofs.clear.Tie as tie
 
@@ -22,7 +22,7 @@ loop-again : tie.Need-loop-again Inv-loop μ-loop
 loop-again c =
     let row = c .before .before in
     let l = row .before .before .before in
-    (omega arith, rowed-and (l .loop .inv .1) (rowed-row (row .clear-row .ensures) _ (λ n u. refl) (omega arith)) (omega arith) (omega arith) (omega arith) (omega arith))
+    (omega arith, rowed-and (l .loop .inv .1) (row .clear-row .ensures) (omega arith) (omega arith) (omega arith))
 
 returns : tie.Need-returns Inv-loop μ-loop
 returns c =
@@ -33,5 +33,4 @@ returns c =
 pub clear-spec : {M : Type 1} → statement M
 clear-spec =
     tie.close
-    (tie.spec Inv-loop μ-loop loop-holds (λ c. search needs) (λ c κs. search needs) (λ c. search needs) (λ c. search needs) loop-again
-    (λ c. search needs) returns)
+    (tie.spec Inv-loop μ-loop loop-holds (λ c κs. search needs) (λ c. search needs) (λ c. search needs) loop-again (λ c. search needs) returns)

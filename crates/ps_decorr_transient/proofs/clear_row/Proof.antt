@@ -1,28 +1,28 @@
 -- `ps_decorr_transient::clear_row` meets its contract: each turn clears one slot more. Assumes nothing.
-use mathlib.Core.Path.{_≡_}
-use Prim.Native.Nat.{_≤_, _-_}
+use mathlib.Core.Path.{_≡_, refl}
+use Prim.Native.Nat.{_≤_, _+_, _-_}
 use borrow.Author.Needs.{needs}
 use native.Mathlib.Omega.{arith}
 use Rattle.standard.specs.Numbers as numbers
-use Rattle.ps_decorr_transient.specs.Rows.{Row}
+use Rattle.ps_decorr_transient.specs.Rows.{Rowed}
 use Rattle.standard.proofs.Literals.{zero-is}
-use Rattle.ps_decorr_transient.proofs.Rows.{row-none, row-more}
+use Rattle.ps_decorr_transient.proofs.Rows.{rowed-start, rowed-more}
 use Rattle.ps_decorr_transient.proofs.clear_row.Statement.{statement}
 use Rattle.ps_decorr_transient.proofs.clear_row.Tie as tie
 
 abbrev Inv-loop : tie.InvT-loop
-Inv-loop gains₀ at slots n₀ gains n = (n ≤ slots) × Row (λ m. numbers.zero) at n gains₀ gains
+Inv-loop gains₀ b slots at n₀ gains n = (n ≤ slots) × Rowed b (b + 1) n (λ i m. numbers.zero) gains₀ gains
 
 abbrev μ-loop : tie.MeasureT-loop
-μ-loop gains₀ at slots n₀ gains n = slots - n
+μ-loop gains₀ b slots at n₀ gains n = slots - n
 
 loop-holds : tie.Need-loop-holds Inv-loop μ-loop
-loop-holds c = (omega arith, row-none _ _ _)
+loop-holds c = (omega arith, rowed-start _ _ _ _)
 
 loop-again : tie.Need-loop-again Inv-loop μ-loop
 loop-again c =
     let l = c .before in
-    (omega arith, row-more (l .loop .inv .1) _ zero-is (omega arith))
+    (omega arith, rowed-more (l .loop .inv .1) _ _ refl zero-is (omega arith) (omega arith))
 
 returns : tie.Need-returns Inv-loop μ-loop
 returns c =
@@ -33,5 +33,5 @@ returns c =
 pub clear-row-spec : {M : Type 1} → statement M
 clear-row-spec =
     tie.close
-    (tie.spec Inv-loop μ-loop loop-holds (λ c. search needs) (λ c. search needs) (λ c. search needs) (λ c. search needs) (λ c. search needs) loop-again
+    (tie.spec Inv-loop μ-loop (λ c. search needs) loop-holds (λ c. search needs) (λ c. search needs) (λ c. search needs) (λ c. search needs) (λ c. search needs) loop-again
     (λ c. search needs) returns)

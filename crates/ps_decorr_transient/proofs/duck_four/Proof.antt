@@ -1,17 +1,17 @@
 -- `ps_decorr_transient::duck_four` meets its contract: in each slot each of the four bands takes the turn of `duck_row`. Assumes nothing.
 use mathlib.Core.Path.{_≡_, refl, sym, _∙_}
 use mathlib.Core.List.{List}
-use Prim.Native.Nat.{ℕ, _≤_, _<_, _+_, _-_}
+use Prim.Native.Nat.{ℕ, _≤_, _<_, _+_, _-_, _*_, _^_}
 use borrow.Author.Needs.{needs}
 use native.Mathlib.Omega.{arith}
 use lib.Ieee.{Float}
 use lib.ListN.{length, length-set}
 use Rattle.ps_decorr_transient.specs.declared.Follower.{Follower}
-use Rattle.ps_decorr_transient.specs.Rows.{Rowed, detectorIn, stateOf, factorOf}
+use Rattle.ps_decorr_transient.specs.Rows.{Rowed, detectorIn, stateOf}
 use Rattle.ps_decorr_transient.proofs.Detectors.{detected-none, detected-more}
 use Rattle.ps_decorr_transient.proofs.Ducks.{turn}
 use Rattle.ps_decorr_transient.proofs.Rows.{rowed-start, rowed-slot, slotted-none}
-use Rattle.ps_decorr_transient.proofs.Slots.{state-none}
+use Rattle.ps_decorr_transient.proofs.Slots.{factorOf, state-none}
 use Rattle.ps_decorr_transient.proofs.duck_four.Statement.{statement}
 use Rattle.ps_decorr_transient.proofs.duck_four.Tie as tie
 
@@ -24,15 +24,18 @@ record Inv (slots b n : ℕ) (memory gains₀ gains : List Float) (first second 
   pub rows : Rowed b (b + 4) n (factorOf memory gains₀) gains₀ gains
 
 abbrev Inv-loop : tie.InvT-loop
-Inv-loop detectors b gains₀ at slots first₀ second₀ third₀ fourth₀ n₀ gains first second third fourth n =
+Inv-loop detectors b gains₀ slots at first₀ second₀ third₀ fourth₀ n₀ gains first second third fourth n =
     Inv slots b n detectors gains₀ gains first second third fourth
 
 abbrev μ-loop : tie.MeasureT-loop
-μ-loop detectors b gains₀ at slots first₀ second₀ third₀ fourth₀ n₀ gains first second third fourth n = slots - n
+μ-loop detectors b gains₀ slots at first₀ second₀ third₀ fourth₀ n₀ gains first second third fourth n = slots - n
 
 -- the entry, whose facts stand too far back for `omega`
 abbrev start : tie.At-loop Inv-loop μ-loop → tie.Start Inv-loop μ-loop
 start l = l .before .before .before .before .before .before .before .before .before .before .before
+
+kept-fit : (l : tie.At-loop Inv-loop μ-loop) → (3 * start l .args .b + 12 ≤ length (start l .args .detectors .now)) × (start l .args .b < 2 ^ 63)
+kept-fit l = omega (arith, start l .pre, start l .good .0)
 
 -- where a turn begins, from each step, and where the loop ends, from each detector that is kept
 abbrev first-step : tie.After-step Inv-loop μ-loop → tie.In-loop Inv-loop μ-loop
@@ -56,9 +59,9 @@ second-keep c = first-keep (c .before .before .before .before)
 abbrev third-keep : tie.After-keep3 Inv-loop μ-loop → tie.At-loop Inv-loop μ-loop
 third-keep c = second-keep (c .before .before .before .before)
 
--- the last of the four places of a turn
-inside : (c : tie.In-loop Inv-loop μ-loop) → (start (c .before) .args .at + c .before .loop .n + 96 < 1088) × (length (c .before .loop .gains) ≡ 1088)
-inside c = omega (arith, start (c .before) .pre, c .before .loop .inv .rows .long)
+-- the last of the four places of a turn, and that it is a place in memory
+inside : (c : tie.In-loop Inv-loop μ-loop) → (32 * start (c .before) .args .b + c .before .loop .n + 96 < length (c .before .loop .gains)) × (length (c .before .loop .gains) * 8 < 2 ^ 63)
+inside c = omega (arith, start (c .before) .pre, start (c .before) .good .1 .1 .0, c .before .loop .inv .rows .long)
 
 loop-holds : tie.Need-loop-holds Inv-loop μ-loop
 loop-holds c =
@@ -92,7 +95,7 @@ loop-again c =
     let m = s .detectors .now in
     let g = s .gains .now in
     let b = s .b in
-    let i = s .at + l .loop .n in
+    let i = 32 * s .b + l .loop .n in
     let one = turn m g (v .rows) (slotted-none b (l .loop .n) _ (l .loop .gains)) (v .one) (b + 1) i (first .step .ensures) (first-factor .factor .ensures) refl (omega arith) (omega arith) in
     let two = turn m g (v .rows) (one .1) (v .two) (b + 2) (i + 32) (second .step2 .ensures) (second-factor .factor2 .ensures) (omega arith) (omega arith) (omega arith) in
     let three = turn m g (v .rows) (two .1) (v .three) (b + 3) (i + 64) (third .step3 .ensures) (third-factor .factor3 .ensures) (omega arith) (omega arith) (omega arith) in
@@ -119,18 +122,18 @@ returns c =
     let b = s .b in
     let e : l .loop .n ≡ s .slots = omega arith in
     let none = detected-none b (stateOf (s .detectors .now) (s .gains .now) (s .slots)) (s .detectors .now) in
-    let one = detected-more none (b + 1) refl (first .keep .ensures) (rw e at (v .one)) (omega arith) (omega arith) (omega arith) in
-    let two = detected-more one (b + 2) (omega arith) (second .keep2 .ensures) (rw e at (v .two)) (omega arith) (omega arith) (omega arith) in
-    let three = detected-more two (b + 3) (omega arith) (third .keep3 .ensures) (rw e at (v .three)) (omega arith) (omega arith) (omega arith) in
+    let one = detected-more none (b + 1) refl (first .keep .ensures) (rw e at (v .one)) (omega arith) in
+    let two = detected-more one (b + 2) (omega arith) (second .keep2 .ensures) (rw e at (v .two)) (omega arith) in
+    let three = detected-more two (b + 3) (omega arith) (third .keep3 .ensures) (rw e at (v .three)) (omega arith) in
     record {
-      detectors = detected-more three (b + 4) (omega arith) (fourth .keep4 .ensures) (rw e at (v .four)) (omega arith) (omega arith) (omega arith);
+      detectors = detected-more three (b + 4) (omega arith) (fourth .keep4 .ensures) (rw e at (v .four)) (omega arith);
       rows = rw e at (v .rows);
     }
 
 pub duck-four-spec : {M : Type 1} → statement M
 duck-four-spec =
     tie.close
-    (tie.spec Inv-loop μ-loop (λ c κs. search needs) (λ c. search needs) (λ c κs. search needs) (λ c. search needs) (λ c κs. search needs) (λ c. search needs) (λ c κs. search needs) loop-holds
+    (tie.spec Inv-loop μ-loop (λ c. search needs) (λ c κs. search needs) (λ c. search needs) (λ c κs. search needs) (λ c. search needs) (λ c κs. search needs) (λ c. search needs) (λ c κs. search needs) loop-holds
     (λ c. search needs) (λ c. search needs) (λ c. search needs) (λ c κs. search needs)
     (λ c. omega (arith, inside (first-step c))) (λ c. omega (arith, inside (first-step c))) (λ c. omega (arith, inside (first-step (c .before)))) (λ c κs. search needs)
     (λ c. omega (arith, inside (second-step c))) (λ c. omega (arith, inside (second-step c))) (λ c. omega (arith, inside (second-step (c .before)))) (λ c κs. search needs)
@@ -140,8 +143,8 @@ duck-four-spec =
     (λ c κs. search needs) (λ c. omega (arith, inside (fourth-step (c .before .before .before)))) (λ c. omega (arith, inside (fourth-step (c .before .before .before)))) (λ c. simp length-set (omega (arith, inside (fourth-step (c .before .before .before)))))
     (λ c κs. search needs) (λ c. omega (arith, inside (fourth-step (c .before .before .before .before)))) (λ c. omega (arith, inside (fourth-step (c .before .before .before .before)))) (λ c. simp length-set (omega (arith, inside (fourth-step (c .before .before .before .before)))))
     (λ c. omega (arith, inside (fourth-step (c .before .before .before .before)))) (λ c. omega (arith, inside (fourth-step (c .before .before .before .before)))) loop-again
-    (λ c κs. omega (arith, start (c .before .before) .pre))
-    (λ c. omega (arith, start (first-keep (c .before .before .before)) .pre)) (λ c κs. omega (arith, start (first-keep (c .before .before .before)) .pre))
-    (λ c. omega (arith, start (second-keep (c .before .before .before)) .pre)) (λ c κs. omega (arith, start (second-keep (c .before .before .before)) .pre))
-    (λ c. omega (arith, start (third-keep (c .before .before .before)) .pre)) (λ c κs. omega (arith, start (third-keep (c .before .before .before)) .pre))
+    (λ c κs. omega (arith, kept-fit (c .before .before)))
+    (λ c. omega (arith, kept-fit (first-keep (c .before .before .before)))) (λ c κs. omega (arith, kept-fit (first-keep (c .before .before .before))))
+    (λ c. omega (arith, kept-fit (second-keep (c .before .before .before)))) (λ c κs. omega (arith, kept-fit (second-keep (c .before .before .before))))
+    (λ c. omega (arith, kept-fit (third-keep (c .before .before .before)))) (λ c κs. omega (arith, kept-fit (third-keep (c .before .before .before))))
     (λ c. search needs) (λ c. search needs) returns)

@@ -28,7 +28,7 @@ loop-again c =
     let four = c .before .before .before .before in
     let l = four .before .before .before .before in
     let p = l .before .before .before .pre in
-    (omega arith, ducked-and (l .loop .inv .1) (four .duck-four .ensures) (omega arith) (omega arith) (omega arith) (omega arith))
+    (omega arith, ducked-and (l .loop .inv .1) (four .duck-four .ensures) (omega arith) (omega arith) (omega arith))
 
 loop2-holds : tie.Need-loop2-holds Inv-loop μ-loop Inv-loop2 μ-loop2
 loop2-holds c = (omega arith, omega arith, ducked-none _ _ _ _)
@@ -38,7 +38,7 @@ loop2-again c =
     let row = c .before .before .before .before in
     let l = row .before .before .before .before in
     let p = l .before .before .before .before .before .pre in
-    (omega arith, omega arith, ducked-and (l .loop2 .inv .2) (row .duck-row .ensures) (omega arith) (omega arith) (omega arith) (omega arith))
+    (omega arith, omega arith, ducked-and (l .loop2 .inv .2) (row .duck-row .ensures) (omega arith) (omega arith) (omega arith))
 
 returns : tie.Need-returns Inv-loop μ-loop Inv-loop2 μ-loop2
 returns c =
@@ -46,11 +46,10 @@ returns c =
     let l = rest .before .before in
     let s = l .before .before .before in
     let e : rest .loop2 .b ≡ s .args .bands = omega arith in
-    rw e at (ducked-and (l .loop .inv .1) (rest .loop2 .inv .2) (omega arith) (omega arith) (omega (arith, s .pre)) (omega (arith, s .pre)))
+    rw e at (ducked-and (l .loop .inv .1) (rest .loop2 .inv .2) (omega arith) (omega arith) (omega (arith, s .pre)))
 
 pub duck-rows-spec : {M : Type 1} → statement M
 duck-rows-spec =
     tie.close
-    (tie.spec Inv-loop μ-loop Inv-loop2 μ-loop2 loop-holds (λ c. search needs) (λ c. search needs) (λ c κs. search needs) (λ c. search needs)
-    (λ c. search needs) loop-again loop2-holds (λ c. search needs) (λ c κs. search needs) (λ c. search needs) (λ c. search needs) loop2-again
-    (λ c. search needs) (λ c. search needs) returns)
+    (tie.spec Inv-loop μ-loop Inv-loop2 μ-loop2 loop-holds (λ c. search needs) (λ c κs. search needs) (λ c. search needs) (λ c. search needs)
+    loop-again loop2-holds (λ c κs. search needs) (λ c. search needs) (λ c. search needs) loop2-again (λ c. search needs) (λ c. search needs) returns)

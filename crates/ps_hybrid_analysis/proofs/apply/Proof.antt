@@ -7,10 +7,9 @@ use lib.ListN.{length}
 use Rattle.planar.specs.Cells.{cell}
 use Rattle.planar.proofs.Cells.{planar-length}
 use Rattle.standard.specs.Hybrid.{tap, filtered}
-use Rattle.ps_hybrid_analysis.specs.Stages.{convolved}
 use Rattle.ps_hybrid_analysis.proofs.Channels.{width, lent-long, written-added}
 use Rattle.ps_hybrid_analysis.proofs.Spans.{filters-most}
-use Rattle.ps_hybrid_analysis.proofs.Taps.{filtered-is}
+use Rattle.ps_hybrid_analysis.proofs.Taps.{convolved, filtered-is}
 use Rattle.ps_hybrid_analysis.proofs.apply.Statement.{statement}
 use Rattle.ps_hybrid_analysis.proofs.apply.Tie as tie
 
@@ -33,7 +32,7 @@ join-requires c κs =
     let s = h .before .before .before .before .before .before .before .before in
     let k = h .channel .result in (
       (ap length (h .before .before .taps2 .ensures) ∙ planar-length 13 (tap (s .args .prototype) (s .args .q)), s .pre .1 .1 .0),
-      (lent-long k (64 * k + 64 - 64 * k) (s .args .samples .now) (width _ _) (s .pre .1 .1 .1 .0) (h .channel .ensures .1), s .pre .1 .1 .1 .1),
+      (lent-long k (64 * k + 64 - 64 * k) (s .args .samples .now) (width _ _) (omega (arith, h .channel .ensures .1, s .pre .1 .1 .1 .0)), s .pre .1 .1 .1 .1),
     )
 
 returns : tie.Need-returns
@@ -46,7 +45,7 @@ returns c =
     let taps = h .before .before .taps2 .last .1 .1 .1 .1 .0 in
     rw (← h .channel .ensures .0)
     (written-added (a .slots) k (64 * k + 64 - 64 * k) (λ n. convolved (cell 13 taps) (cell 44 (a .band .now)) n 13)
-    (filtered (a .prototype) (a .q) (cell 44 (a .band .now))) (a .samples .now) (j .join .last .1 .1 .1 .0) (width _ _) (s .pre .1 .1 .1 .0) (h .channel .ensures .1)
+    (filtered (a .prototype) (a .q) (cell 44 (a .band .now))) (a .samples .now) (j .join .last .1 .1 .1 .0) (width _ _) (omega (arith, h .channel .ensures .1, s .pre .1 .1 .1 .0))
     (s .pre .1 .1 .1 .1) (j .join .ensures) (λ n. filtered-is (a .prototype) (a .q) taps (cell 44 (a .band .now)) n (h .before .before .taps2 .ensures)))
 
 pub apply-spec : {M : Type 1} → statement M

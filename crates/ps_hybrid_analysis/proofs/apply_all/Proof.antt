@@ -1,5 +1,5 @@
 -- `ps_hybrid_analysis::apply_all` meets its contract: after q turns the first q filters are joined. Assumes nothing.
-use mathlib.Core.Path.{_≡_, _∙_}
+use mathlib.Core.Path.{_≡_}
 use mathlib.Core.List.{List}
 use Prim.Native.Nat.{ℕ, suc, _-_, _<_, _≤_}
 use native.Mathlib.Omega.{arith}
@@ -9,7 +9,6 @@ use Rattle.layout.specs.declared.Layout.{Layout}
 use Rattle.planar.specs.Cells.{cell}
 use Rattle.standard.specs.Hybrid.{filtersOf, joinedTo, firstChannelOf}
 use Rattle.ps_hybrid_analysis.specs.Stages.{Written}
-use Rattle.standard.proofs.Spans.{spans}
 use Rattle.ps_hybrid_analysis.proofs.Spans.{channel-inside}
 use Rattle.ps_hybrid_analysis.proofs.Split.{joined-none, joined-more}
 use Rattle.ps_hybrid_analysis.proofs.apply_all.Statement.{statement}
@@ -36,7 +35,7 @@ apply-requires c κs =
     let f = l .before in
     let s = f .before .before .before .before .before in (
       (s .pre .0 .0, (s .pre .0 .1, omega (arith, f .filters-of .ensures))),
-      (s .pre .1 .0, (s .pre .1 .1 .0 .0, (l .loop .inv .written .long ∙ s .pre .1 .1 .0 .1 .0, s .pre .1 .1 .0 .1 .1))),
+      (s .pre .1 .0, (s .pre .1 .1 .0 .0, (rw (l .loop .inv .written .long) (s .pre .1 .1 .0 .1 .0), s .pre .1 .1 .0 .1 .1))),
     )
 
 loop-again : tie.Need-loop-again Inv-loop μ-loop
@@ -53,7 +52,7 @@ loop-again c =
       within = omega arith;
       written =
           joined-more (a .layout) (a .p) (cell 44 (a .band .now)) q (a .prototype) (s .pre .0 .0) (l .loop .inv .written) (r .apply .ensures)
-          (s .pre .1 .1 .0 .1 .1) (omega (arith, spans (a .layout) (suc (a .p)) .few)) (inside .from) (inside .to);
+          (s .pre .1 .1 .0 .1 .1) (inside .from) (inside .to);
     }
 
 returns : tie.Need-returns Inv-loop μ-loop

@@ -1,5 +1,5 @@
 -- `ps_hybrid_analysis::filter_band` meets its contract: the filters are joined over channels that are 0 by then. Assumes nothing.
-use mathlib.Core.Path.{_≡_, _∙_}
+use mathlib.Core.Path.{_≡_}
 use Prim.Native.Nat.{suc}
 use native.Mathlib.Numerals.{add-one}
 use native.Mathlib.Omega.{arith}
@@ -22,8 +22,9 @@ silence-requires c κs =
     let l = s .args .layout in
     let p = s .args .p in
     let to : two .span2 .result ≡ firstChannelOf l (suc p) = rw (add-one p) at (two .span2 .ensures) in (
-      (omega (arith, two .before .span .ensures, to, spans l p .rises), omega (arith, to, spans l (suc p) .few)),
-      s .pre .1 .1,
+      omega (arith, two .before .span .ensures, to, spans l p .rises),
+      omega (arith, to, spans l (suc p) .most, s .pre .1 .1 .0),
+      s .pre .1 .1 .1,
     )
 
 modulate-requires : tie.Need-modulate-requires
@@ -35,7 +36,7 @@ modulate-requires c κs =
     let p = s .args .p in (
       (t .prototype-for .ensures, s .pre .0),
       (
-        (s .pre .1 .0, (w .silence .ensures .long ∙ s .pre .1 .1 .0, s .pre .1 .1 .1)),
+        (s .pre .1 .0, (rw (w .silence .ensures .long) (s .pre .1 .1 .0), s .pre .1 .1 .1)),
         silenced (s .args .layout) p (w .silence .ensures) (two .before .span .ensures) (rw (add-one p) at (two .span2 .ensures)),
       ),
     )

@@ -1,5 +1,5 @@
 -- `ps_hybrid_analysis::silence` meets its contract: after the turn k the channels before k are 0. Assumes nothing.
-use mathlib.Core.Path.{_≡_, _∙_}
+use mathlib.Core.Path.{_≡_}
 use Prim.Native.Nat.{_+_, _-_, _*_}
 use native.Mathlib.Omega.{arith}
 use borrow.Author.Needs.{needs}
@@ -24,7 +24,7 @@ run-requires : tie.Need-silence-run-requires Inv-loop μ-loop
 run-requires c κs =
     let l = c .before .before in
     let k = l .loop .k in
-    (lent-long k (64 * k + 64 - 64 * k) (l .loop .samples) (width _ _) (l .loop .inv .written .long ∙ l .before .before .pre .1 .0) (omega arith), search needs)
+    (lent-long k (64 * k + 64 - 64 * k) (l .loop .samples) (width _ _) (omega (arith, l .loop .inv .written .long, l .before .before .pre)), search needs)
 
 loop-again : tie.Need-loop-again Inv-loop μ-loop
 loop-again c =
@@ -38,7 +38,7 @@ loop-again c =
       written =
           written-on (l .loop .inv .written)
           (written-lent (s .args .slots) k (64 * k + 64 - 64 * k) (λ k n. nought) (l .loop .samples) (r .silence-run .last .0) (width _ _)
-          (l .loop .inv .written .long ∙ s .pre .1 .0) (omega arith) (omega arith) (r .silence-run .ensures))
+          (omega (arith, l .loop .inv .written .long, s .pre)) (omega arith) (r .silence-run .ensures))
           (omega arith) (omega arith) (omega arith);
     }
 

@@ -9,6 +9,7 @@ use Rattle.ps_hybrid_analysis.specs.Stages.{bandAt}
 use Rattle.ps_hybrid_analysis.proofs.Channels.{written-same}
 use Rattle.planar.proofs.Cells.{planar-same}
 use Rattle.layout.proofs.Bounds.{bounds}
+use Rattle.ps_hybrid_analysis.proofs.Runs.{slot-at}
 use Rattle.ps_hybrid_analysis.proofs.Split.{joined-same}
 use Rattle.ps_hybrid_analysis.proofs.split_band.Statement.{statement}
 use Rattle.ps_hybrid_analysis.proofs.split_band.Tie as tie
@@ -26,10 +27,11 @@ returns c =
     let s = g .before .before .before .before .before .before in
     let a = s .args in
     let band = cell 44 (g .gather .last .1 .1 .1 .1 .0) in
-    let x = bandAt (a .history .now) (a .input .now) (a .p) in (
-      k .keep .ensures ∙ planar-same 6 (λ j. band (a .slots + j)) (λ j. x (a .slots + j)) (λ j u. g .gather .ensures .cells (a .slots + j) (omega arith)),
+    let x = bandAt (a .history .now) (a .input .now) (a .p) in
+    let at = slot-at (a .slots + 12) x _ (g .gather .ensures) (omega arith) in (
+      k .keep .ensures ∙ planar-same 6 (λ j. band (a .slots + j)) (λ j. x (a .slots + j)) (λ j u. at (a .slots + j) (omega arith)),
       written-same (f .filter-band .ensures) (λ k n. joinedTo (a .layout) (a .p) x n k (filtersOf (prototypeFor (a .layout) (a .p))))
-          (λ k n u v w. joined-same (a .layout) (a .p) band x n k (filtersOf (prototypeFor (a .layout) (a .p))) (λ j z. g .gather .ensures .cells j (omega arith))),
+          (λ k n u v w. joined-same (a .layout) (a .p) band x n k (filtersOf (prototypeFor (a .layout) (a .p))) (λ j z. at j (omega arith))),
     )
 
 pub split-band-spec : {M : Type 1} → statement M

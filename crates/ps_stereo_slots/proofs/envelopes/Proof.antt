@@ -31,7 +31,7 @@ abbrev μ-loop : tie.MeasureT-loop
 loop-holds : tie.Need-loop-holds Inv-loop μ-loop
 loop-holds c =
     let s = c .before .before .before .before in
-    let here : s .args .at ≡ 272 * 0 + s .args .at = omega arith in
+    let here : s .args .at ≡ s .args .at + 8 * 0 = omega arith in
     record {
       within = omega arith;
       coefficients = c .matrix-at .ensures ∙ ap (λ (k : ℕ). keptMatrix (part k 8 (s .args .rows .now))) here;
@@ -75,7 +75,7 @@ returns c =
     let all : l .loop .e ≡ s .count = omega (arith, v .within) in
     rw (← all)
     (filled-held (s .t4) (fractionAt (s .fractions .now)) (rowMatrix (s .rows .now) (s .at)) (s .slots) (s .out .now) _ (v .filled) (l .loop .from)
-    (v .coefficients) (rw (v .place) at (c .before .before .hold .ensures)))
+    (l .loop .first) (v .coefficients) (v .place) (c .before .before .hold .ensures))
 
 pub envelopes-spec : {M : Type 1} → statement M
 envelopes-spec =

@@ -9,7 +9,7 @@ use Rattle.ps_stereo_slots.proofs.first_slot.Tie as tie
 after : tie.Need-returns-2
 after c =
     let s = c .before .before .args in
-    record { is = c .after .ensures .0 ∙ add-one _ ∙ sym (start-after (s .t1) (s .e) (c .before .if1 .left)); small = c .after .ensures .1 }
+    (c .after .ensures .0 ∙ add-one _ ∙ sym (start-after (s .t1) (s .e) (c .before .if1 .left)), c .after .ensures .1)
 
 pub first-slot-spec : {M : Type 1} → statement M
 first-slot-spec =

@@ -18,7 +18,7 @@ returns c =
       s .before .above2 .ensures,
       s .before .before .after .ensures .0,
       a .above .ensures,
-      a .before .first-slot .ensures .is,
+      a .before .first-slot .ensures .0,
       add-one (g .n),
       add-one (getD (g .t1) (g .e) 0),
     )

@@ -10,13 +10,13 @@ before : tie.Need-returns
 before c =
     let f = c .before in
     let s = f .before .args in
-    rw (lt-leb (start (s .t1) (s .e)) (s .n) (omega (arith, f .first-slot .ensures .is, c .if1 .taken)))
+    rw (lt-leb (start (s .t1) (s .e)) (s .n) (omega (arith, f .first-slot .ensures .0, c .if1 .taken)))
 
 returns : tie.Need-returns-2
 returns c =
     let f = c .before in
     let s = f .before .args in
-    rw (le-leb (start (s .t1) (s .e)) (s .n) (omega (arith, f .first-slot .ensures .is, c .if1 .left)))
+    rw (le-leb (start (s .t1) (s .e)) (s .n) (omega (arith, f .first-slot .ensures .0, c .if1 .left)))
 
 pub lies-in-spec : {M : Type 1} → statement M
 lies-in-spec = tie.close (tie.spec (λ c. search needs) (λ c κs. search needs) before (λ c. search needs) (λ c. search needs) returns)

@@ -1,7 +1,7 @@
 -- `ps_allpass_channels::desks::duck_four` meets its contract: four numbers side by side are four channels' ducking factors. Assumes nothing.
 use mathlib.Core.Path.{_≡_, refl, ap, _∙_}
 use mathlib.Core.List.{List}
-use Prim.Native.Nat.{ℕ, _+_, _-_, _*_, _<_}
+use Prim.Native.Nat.{ℕ, _+_, _*_, _<_}
 use native.Mathlib.Omega.{arith}
 use borrow.Author.Needs.{needs}
 use lib.Ieee.{Float, nan}
@@ -33,22 +33,22 @@ module _ (map : List ℕ) (gains : List Float) (n g : ℕ) where
 duck-requires : tie.Need-duck-requires
 duck-requires c κs =
     let p = c .before .before .pre in
-    (omega (arith, p .2), p .0 _, p .1, p .3)
+    (omega (arith, p .2), p .1, p .0 _)
 
 duck-requires-2 : tie.Need-duck-requires-2
 duck-requires-2 c κs =
     let p = c .before .before .before .pre in
-    (omega (arith, p .2), p .0 _, p .1, p .3)
+    (omega (arith, p .2), p .1, p .0 _)
 
 duck-requires-3 : tie.Need-duck-requires-3
 duck-requires-3 c κs =
     let p = c .before .before .before .before .pre in
-    (omega (arith, p .2), p .0 _, p .1, p .3)
+    (omega (arith, p .2), p .1, p .0 _)
 
 duck-requires-4 : tie.Need-duck-requires-4
 duck-requires-4 c κs =
     let p = c .before .before .before .before .before .pre in
-    (omega (arith, p .2), p .0 _, p .1, p .3)
+    (omega (arith, p .2), p .1, p .0 _)
 
 returns : tie.Need-returns
 returns c =
@@ -59,7 +59,7 @@ returns c =
     let a = start .args in
     laid (a .map .now) (a .gains .now) (a .n) (a .g)
     (written (a .map .now) (a .gains .now) (a .n) (a .g) (a .desks .now) (first .duck .result) (second .duck2 .result) (third .duck3 .result) (c .duck4 .result)
-    (start .pre .2) (start .pre .4) (first .duck .ensures) (second .duck2 .ensures) (third .duck3 .ensures) (c .duck4 .ensures))
+    (start .pre .2) (start .pre .3) (first .duck .ensures) (second .duck2 .ensures) (third .duck3 .ensures) (c .duck4 .ensures))
 
 pub duck-four-spec : {M : Type 1} → statement M
 duck-four-spec =

@@ -3,7 +3,7 @@ use mathlib.Core.Path.{_∙_}
 use native.Mathlib.Omega.{arith}
 use borrow.Author.Needs.{needs}
 use Rattle.layout.proofs.Bounds.{bounds}
-use Rattle.ps_allpass_channels.proofs.DeskReads.{same-chains, same-ways}
+use Rattle.ps_allpass_channels.proofs.DeskReads.{same-chain, same-from, same-step}
 use Rattle.ps_allpass_channels.proofs.DeskLaid.{entered}
 use Rattle.ps_allpass_channels.proofs.desks.enter.Statement.{statement}
 use Rattle.ps_allpass_channels.proofs.desks.enter.Tie as tie
@@ -23,11 +23,18 @@ returns c =
     let a = start .args in
     let p = rw (unsplit .unsplit-from .ensures) at (first .enter-split .ensures) in
     let q = second .enter-row .ensures in
-    let r = third .enter-ducks .ensures in (
-      entered (a .layout) (a .samples .now) (a .gains .now) (a .input .now) (a .n) p q r,
+    let r = third .enter-ducks .ensures in
+    let e = entered (a .layout) (a .samples .now) (a .gains .now) (a .input .now) (a .n) p q r in (
+      e .0,
       (
-        same-chains (r .long ∙ q .long ∙ p .long) (λ k j u. r .before k j (omega arith) ∙ q .before k j (omega arith) ∙ p .before k j (omega arith)),
-        same-ways (λ k j u. r .before k j (omega arith) ∙ q .before k j (omega arith) ∙ p .before k j u),
+        e .1,
+        (
+          λ k u. same-chain _ _ k (λ j v. r .before k j (omega arith) ∙ q .before k j (omega arith) ∙ p .before k j (omega arith)),
+          (
+            λ k u. same-from _ _ k (λ j v. r .before k j (omega arith) ∙ q .before k j v ∙ p .before k j v),
+            λ k u. same-step _ _ k (λ j v. r .before k j (omega arith) ∙ q .before k j v ∙ p .before k j v),
+          ),
+        ),
       ),
     )
 

@@ -21,7 +21,7 @@ record Inv (map : List ℕ) (gains : List Float) (n end : ℕ) (desks₀ desks :
   pub within : g ≤ end
   pub few : end ≤ 13
   pub whole : length desks ≡ 1768
-  pub small : (k : ℕ) → getD map k 0 < 34
+  pub room : (k : ℕ) → 32 * getD map k 0 + 32 ≤ length gains
   pub laid : Put 0 (4 * g) 29 (λ j. j < 30) (duckOf map gains n) desks₀ desks
 
 abbrev Inv-loop : tie.InvT-loop
@@ -38,7 +38,7 @@ loop-holds c =
       within = omega arith;
       few = omega (arith, c .groups .ensures, bounds (a .layout) .groups);
       whole = start .pre .3;
-      small = λ k. band-fits (a .layout) (a .map .now) k (start .pre .0);
+      room = λ k. omega (arith, band-fits (a .layout) (a .map .now) k (start .pre .0), start .pre .2);
       laid = channels-none 0 29 (λ j. j < 30) (duckOf (a .map .now) (a .gains .now) (a .n)) (a .desks .now);
     }
 
@@ -47,7 +47,7 @@ duck-four-requires c κs =
     let turn = c .before in
     let v = turn .before .loop .inv in
     let p = turn .before .before .before .before .before .pre in
-    (v .small, p .1, omega (arith, v .few, turn .loop-test .taken), p .2, v .whole)
+    (v .room, p .1, omega (arith, v .few, turn .loop-test .taken), v .whole)
 
 loop-again : tie.Need-loop-again Inv-loop μ-loop
 loop-again c =
@@ -60,7 +60,7 @@ loop-again c =
       within = omega (arith, turn .loop-test .taken);
       few = v .few;
       whole = called .duck-four .ensures .long ∙ v .whole;
-      small = v .small;
+      room = v .room;
       laid = rw next (channels-on (v .laid) (called .duck-four .ensures) (omega arith) (omega arith) (λ k j a b. refl));
     }
 

@@ -1,7 +1,9 @@
 -- `ps_allpass_channels::desks::lay` meets its contract: each turn lays one chain more. Assumes nothing.
-use mathlib.Core.Path.{_≡_, ap, _∙_}
+use mathlib.Core.Path.{_≡_, _∙_}
+use mathlib.Core.Logic.{_⊎_, inl, inr}
 use mathlib.Core.List.{List}
-use Prim.Native.Nat.{ℕ, _-_, _≤_, _<_}
+use Prim.Native.Nat.{ℕ, _+_, _-_, _≤_, _<_}
+use native.Mathlib.Nat.{eq-or-lt-of-le}
 use native.Mathlib.Omega.{arith}
 use borrow.Author.Needs.{needs}
 use lib.IntN.{ℤ}
@@ -9,22 +11,30 @@ use lib.Ieee.{Float}
 use lib.ListN.{length}
 use Rattle.layout.proofs.Bounds.{bounds}
 use Rattle.layout.specs.declared.Layout.{Layout}
+use Rattle.ps_allpass_groups.specs.Desk.{chainOn}
 use Rattle.standard.specs.declared.Chain.{Chain}
 use Rattle.standard.specs.Channel.{chainFrom}
-use Rattle.ps_allpass_channels.specs.DeskNumbers.{chainNumber, Put}
-use Rattle.ps_allpass_channels.proofs.DeskPuts.{channels-none, channels-more}
-use Rattle.ps_allpass_channels.proofs.DeskReads.{chain-at}
+use Rattle.ps_allpass_channels.specs.Desks.{deskOf}
 use Rattle.ps_allpass_channels.proofs.desks.lay.Statement.{statement}
 use Rattle.ps_allpass_channels.proofs.desks.lay.Tie as tie
 
-record Inv (layout : Layout) (table : List ℤ) (channels : ℕ) (desks₀ desks : List Float) (k : ℕ) : Type 0 where
+record Inv (layout : Layout) (table : List ℤ) (channels : ℕ) (desks : List Float) (k : ℕ) : Type 0 where
   pub within : k ≤ channels
   pub few : channels ≤ 52
   pub whole : length desks ≡ 1768
-  pub laid : Put 0 k 0 (λ j. j < 11) (λ c. chainNumber (chainFrom table layout c)) desks₀ desks
+  pub laid : (i : ℕ) → i < k → deskOf chainOn desks i ≡ chainFrom table layout i
+
+-- one chain more, those before it as they were
+one-more : {old new chain : ℕ → Chain} (k : ℕ) → ((i : ℕ) → i < k → old i ≡ chain i) → ((i : ℕ) → i < k → new i ≡ old i) → new k ≡ chain k
+    → (i : ℕ) → i < k + 1 → new i ≡ chain i
+one-more {old} {new} {chain} k sofar same own i u = at (eq-or-lt-of-le (omega arith))
+  where
+    at : (i ≡ k) ⊎ (i < k) → new i ≡ chain i
+    at (inl e) = rw e own
+    at (inr l) = same i l ∙ sofar i l
 
 abbrev Inv-loop : tie.InvT-loop
-Inv-loop layout table desks₀ channels k₀ desks k = Inv layout table channels desks₀ desks k
+Inv-loop layout table desks₀ channels k₀ desks k = Inv layout table channels desks k
 
 abbrev μ-loop : tie.MeasureT-loop
 μ-loop layout table desks₀ channels k₀ desks k = channels - k
@@ -37,7 +47,7 @@ loop-holds c =
       within = omega arith;
       few = omega (arith, c .groups .ensures, bounds (a .layout) .groups);
       whole = start .pre;
-      laid = channels-none 0 0 (λ j. j < 11) (λ k. chainNumber (chainFrom (a .table .now) (a .layout) k)) (a .desks .now);
+      laid = λ i u. absurd (omega arith);
     }
 
 loop-again : tie.Need-loop-again Inv-loop μ-loop
@@ -49,20 +59,15 @@ loop-again c =
     record {
       within = omega (arith, turn .loop-test .taken);
       few = v .few;
-      whole = called .lay-chain .ensures .long ∙ v .whole;
-      laid = channels-more (v .laid) (called .lay-chain .ensures) (omega arith) (λ j. ap (λ (chain : Chain). chainNumber chain j) (made .chain .ensures));
+      whole = c .before .desks .given ∙ v .whole;
+      laid = one-more (turn .before .loop .k) (v .laid) (called .lay-chain .ensures .1) (called .lay-chain .ensures .0 ∙ made .chain .ensures);
     }
 
 returns : tie.Need-returns Inv-loop μ-loop
 returns c =
     let v = c .before .loop .inv in
-    let start = c .before .before .before .before in
     let count = c .before .before .groups .ensures in
-    record {
-      long = v .whole;
-      chain = λ k u. chain-at (c .before .loop .desks) k (chainNumber (chainFrom (start .args .table .now) (start .args .layout) k))
-          (λ j a b. v .laid .inside k j (omega arith) (omega (arith, v .within, count)) (omega arith) (omega arith) b);
-    }
+    λ k u. v .laid k (omega (arith, v .within, count))
 
 pub lay-spec : {M : Type 1} → statement M
 lay-spec =

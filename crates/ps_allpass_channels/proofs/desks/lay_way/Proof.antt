@@ -8,8 +8,9 @@ use borrow.Author.Needs.{needs}
 use borrow.Author.Tests.{lt-ltb, le-ltb}
 use lib.Ieee.{Float, nan, binary64, sub}
 use lib.ListN.{length, getD, set, length-set}
-use Rattle.ps_allpass_channels.specs.DeskNumbers.{wayNumber, Put}
+use Rattle.ps_allpass_channels.specs.DeskNumbers.{Put}
 use Rattle.ps_allpass_channels.proofs.DeskPuts.{put-none, put-more, put-all}
+use Rattle.ps_allpass_channels.proofs.DeskReads.{wayNumber}
 use Rattle.ps_allpass_channels.proofs.desks.lay_way.Statement.{statement}
 use Rattle.ps_allpass_channels.proofs.desks.lay_way.Tie as tie
 

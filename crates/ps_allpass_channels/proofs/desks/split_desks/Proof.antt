@@ -38,7 +38,7 @@ split-four-requires : tie.Need-split-four-requires Inv-loop μ-loop
 split-four-requires c κs =
     let turn = c .before in
     let start = turn .before .before .before .before in
-    (start .pre .1, omega (arith, start .pre .0, turn .loop-test .taken), start .pre .2, turn .before .loop .inv .whole)
+    (start .pre .1, omega (arith, start .pre .0, turn .loop-test .taken), omega (arith, start .pre .2, turn .loop-test .taken), turn .before .loop .inv .whole)
 
 loop-again : tie.Need-loop-again Inv-loop μ-loop
 loop-again c =

@@ -7,21 +7,22 @@ use borrow.Author.Needs.{needs}
 use lib.Ieee.{Float}
 use lib.ListN.{length, getD}
 use Rattle.layout.proofs.Bounds.{bounds}
-use Rattle.ps_allpass_channels.specs.DeskNumbers.{wayNumber, Put}
+use Rattle.limits.specs.Limits as limits
+use Rattle.ps_allpass_channels.specs.DeskNumbers.{Put}
 use Rattle.ps_allpass_channels.proofs.DeskPuts.{channels-none, channels-more}
-use Rattle.ps_allpass_channels.proofs.DeskReads.{same-chains}
+use Rattle.ps_allpass_channels.proofs.DeskReads.{wayNumber, same-chain}
 use Rattle.ps_allpass_channels.proofs.DeskLaid.{band-fits, wayed}
 use Rattle.ps_allpass_channels.proofs.desks.ways.Statement.{statement}
 use Rattle.ps_allpass_channels.proofs.desks.ways.Tie as tie
 
 abbrev wayIn : List ℕ → List Float → ℕ → ℕ → ℕ → ℕ → Float
-wayIn map rows e next k = wayNumber rows (272 * e + 8 * getD map k 0) (272 * next + 8 * getD map k 0)
+wayIn map rows e next k = wayNumber rows (limits.course * getD map k 0 + 8 * e) (limits.course * getD map k 0 + 8 * next)
 
 record Inv (map : List ℕ) (rows : List Float) (e next channels : ℕ) (desks₀ desks : List Float) (k : ℕ) : Type 0 where
   pub within : k ≤ channels
   pub few : channels ≤ 52
   pub whole : length desks ≡ 1768
-  pub small : (c : ℕ) → getD map c 0 < 34
+  pub room : (c : ℕ) → limits.course * getD map c 0 + limits.course ≤ length rows
   pub laid : Put 0 k 11 (λ j. j < 27) (wayIn map rows e next) desks₀ desks
 
 abbrev Inv-loop : tie.InvT-loop
@@ -38,13 +39,14 @@ loop-holds c =
       within = omega arith;
       few = omega (arith, c .groups .ensures, bounds (a .layout) .groups);
       whole = start .pre .0 .1 .1;
-      small = λ k. band-fits (a .layout) (a .map .now) k (start .pre .0 .0);
+      room = λ k. omega (arith, band-fits (a .layout) (a .map .now) k (start .pre .0 .0), start .pre .0 .1 .0);
       laid = channels-none 0 11 (λ j. j < 27) (wayIn (a .map .now) (a .rows .now) (a .e) (a .next)) (a .desks .now);
     }
 
--- the turn's band
-band : (c : tie.In-loop Inv-loop μ-loop) → getD (c .before .before .before .before .before .args .map .now) (c .before .loop .k) 0 < 34
-band c = c .before .loop .inv .small (c .before .loop .k)
+-- the course of the turn's band
+course : (c : tie.In-loop Inv-loop μ-loop)
+    → limits.course * getD (c .before .before .before .before .before .args .map .now) (c .before .loop .k) 0 + limits.course ≤ length (c .before .before .before .before .before .args .rows .now)
+course c = c .before .loop .inv .room (c .before .loop .k)
 
 loop-again : tie.Need-loop-again Inv-loop μ-loop
 loop-again c =
@@ -55,7 +57,7 @@ loop-again c =
       within = omega (arith, turn .loop-test .taken);
       few = v .few;
       whole = called .lay-way .ensures .long ∙ v .whole;
-      small = v .small;
+      room = v .room;
       laid = channels-more (v .laid) (called .lay-way .ensures) (omega arith) (λ j. refl);
     }
 
@@ -66,13 +68,13 @@ returns c =
     let a = start .args in
     let all : l .k ≡ 4 * c .before .before .groups .result = omega (arith, l .inv .within, c .loop-test .left) in (
       wayed (a .layout) (a .rows .now) (a .e) (a .next) (rw (all, c .before .before .groups .ensures, start .pre .0 .0) at (l .inv .laid)),
-      same-chains (l .inv .laid .long) (l .inv .laid .before),
+      λ k u. same-chain _ _ k (l .inv .laid .before k),
     )
 
 pub ways-spec : {M : Type 1} → statement M
 ways-spec =
     tie.close
     (tie.spec Inv-loop μ-loop (λ c κs. search needs) (λ c. omega (arith, c .groups .ensures, bounds (c .before .before .before .args .layout) .groups)) loop-holds
-    (λ c. search needs) (λ c. omega (arith, band (c .before))) (λ c. omega (arith, band (c .before))) (λ c. search needs) (λ c. omega (arith, band (c .before)))
-    (λ c. search needs) (λ c. omega (arith, band (c .before))) (λ c κs. omega (arith, band (c .before .before))) (λ c. search needs) (λ c. search needs) loop-again
+    (λ c. search needs) (λ c. omega (arith, course (c .before))) (λ c. omega (arith, course (c .before))) (λ c. search needs) (λ c. omega (arith, course (c .before)))
+    (λ c. search needs) (λ c. omega (arith, course (c .before))) (λ c κs. omega (arith, course (c .before .before))) (λ c. search needs) (λ c. search needs) loop-again
     (λ c. search needs) returns)

@@ -4,8 +4,8 @@ use Prim.Native.Nat.{ℕ, _+_, _-_, _≤_}
 use borrow.Author.Needs.{needs}
 use native.Mathlib.Omega.{arith}
 use Rattle.complex.specs.declared.Complex.{Complex}
-use Rattle.ps_allpass_channels.specs.Leaving.{standing, CarriedOn}
-use Rattle.ps_allpass_channels.proofs.Sums.{one-more}
+use Rattle.ps_allpass_channels.specs.Desks.{standing}
+use Rattle.ps_allpass_channels.proofs.Sums.{CarriedOn, one-more}
 use Rattle.ps_allpass_channels.proofs.rows.add_channels.Statement.{statement}
 use Rattle.ps_allpass_channels.proofs.rows.add_channels.Tie as tie
 

@@ -1,11 +1,11 @@
 -- `ps_allpass_channels::rows::add_desks` meets its contract: after each turn the channels of the desks up to j are added. Assumes nothing.
 use mathlib.Core.Path.{_≡_, _∙_}
-use Prim.Native.Nat.{ℕ, _+_, _-_, _*_, _≤_}
+use Prim.Native.Nat.{ℕ, _-_, _*_, _≤_}
 use borrow.Author.Needs.{needs}
 use native.Mathlib.Omega.{arith}
 use Rattle.complex.specs.declared.Complex.{Complex}
-use Rattle.ps_allpass_channels.specs.Leaving.{standing, CarriedOn}
-use Rattle.ps_allpass_channels.proofs.Sums.{desk-more}
+use Rattle.ps_allpass_channels.specs.Desks.{standing}
+use Rattle.ps_allpass_channels.proofs.Sums.{CarriedOn, desk-more}
 use Rattle.ps_allpass_channels.proofs.rows.add_desks.Statement.{statement}
 use Rattle.ps_allpass_channels.proofs.rows.add_desks.Tie as tie
 

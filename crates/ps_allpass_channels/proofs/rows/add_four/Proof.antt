@@ -1,10 +1,7 @@
 -- `ps_allpass_channels::rows::add_four` meets its contract: the four lanes are added one after the other. Assumes nothing.
-use mathlib.Core.Path.{_≡_, _∙_, ap, ap₂}
-use Prim.Native.Nat.{ℕ, _+_}
+use mathlib.Core.Path.{_∙_, ap, ap₂}
 use borrow.Author.Needs.{needs}
-use native.Mathlib.Omega.{arith}
 use Rattle.complex.specs.Operations.{sum}
-use Rattle.planar.specs.Cells.{cell}
 use Rattle.ps_allpass_channels.proofs.rows.add_four.Statement.{statement}
 use Rattle.ps_allpass_channels.proofs.rows.add_four.Tie as tie
 
@@ -15,14 +12,13 @@ returns c =
     let s1 = s2 .before in
     let d = s1 .before in
     let a = d .before .before .before .before .before .args in
-    let zero : a .at ≡ a .at + 0 = omega arith in
     c .add4 .ensures
     ∙ ap₂ sum
     (s3 .add3 .ensures
     ∙ ap₂ sum
     (s2 .add2 .ensures
     ∙ ap₂ sum
-    (s1 .add .ensures ∙ ap (sum (a .start)) (d .before .before .before .lane .ensures ∙ ap (cell 4 (a .desks .now)) zero))
+    (s1 .add .ensures ∙ ap (sum (a .start)) (d .before .before .before .lane .ensures))
     (d .before .before .lane2 .ensures))
     (d .before .lane3 .ensures))
     (d .lane4 .ensures)

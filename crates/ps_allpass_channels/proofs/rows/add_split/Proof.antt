@@ -13,7 +13,7 @@ use Rattle.layout.specs.Numbers.{splitOf}
 use Rattle.layout.proofs.Bounds.{bounds}
 use Rattle.standard.specs.Hybrid.{firstChannelOf, addedTo, synthesised}
 use Rattle.standard.proofs.Spans.{spans}
-use Rattle.ps_allpass_channels.specs.Leaving.{standing, Rowed}
+use Rattle.ps_allpass_channels.specs.Desks.{standing, Rowed}
 use Rattle.ps_allpass_channels.proofs.Leaving.{rowed-none, rowed-more, band-split}
 use Rattle.ps_allpass_channels.proofs.rows.add_split.Statement.{statement}
 use Rattle.ps_allpass_channels.proofs.rows.add_split.Tie as tie

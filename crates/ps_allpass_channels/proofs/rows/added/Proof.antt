@@ -1,11 +1,11 @@
 -- `ps_allpass_channels::rows::added` meets its contract: the sum goes on from 0, by desks and then by channels, or by channels alone. Assumes nothing.
 use mathlib.Core.Path.{_≡_, refl, _∙_}
-use Prim.Native.Nat.{ℕ, _*_, _/_, _%_, _≤_}
+use Prim.Native.Nat.{_*_, _/_, _%_, _≤_}
 use borrow.Author.Needs.{needs}
 use native.Mathlib.Omega.{arith}
 use Rattle.standard.proofs.Literals.{zero-is}
 use Rattle.planar.proofs.Cells.{by-parts}
-use Rattle.ps_allpass_channels.specs.Leaving.{standing}
+use Rattle.ps_allpass_channels.specs.Desks.{standing}
 use Rattle.ps_allpass_channels.proofs.Sums.{none-yet}
 use Rattle.ps_allpass_channels.proofs.rows.added.Statement.{statement}
 use Rattle.ps_allpass_channels.proofs.rows.added.Tie as tie

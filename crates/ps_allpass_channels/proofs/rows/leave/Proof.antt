@@ -2,8 +2,8 @@
 use Prim.Native.Nat.{_+_, _-_, _*_}
 use borrow.Author.Needs.{needs}
 use native.Mathlib.Nat.{add-sub-cancel-left}
-use Rattle.ps_allpass_channels.specs.Desks.{leftAt, rightAt}
-use Rattle.ps_allpass_channels.specs.Leaving.{standing}
+use Rattle.ps_allpass_groups.specs.Desk.{leftOn, rightOn}
+use Rattle.ps_allpass_channels.specs.Desks.{deskOf, standing}
 use Rattle.ps_allpass_channels.proofs.Leaving.{left-standing, right-standing, row-left}
 use Rattle.ps_allpass_channels.proofs.rows.leave.Statement.{statement}
 use Rattle.ps_allpass_channels.proofs.rows.leave.Tie as tie
@@ -17,9 +17,9 @@ returns c =
     let n = a .n in
     let desks = a .desks .now in
     let wide = add-sub-cancel-left (128 * n) 128 in (
-      row-left (a .layout) (standing desks 120) (leftAt desks) (left-standing desks) n (128 * n + 128 - 128 * n) (a .left .now)
+      row-left (a .layout) (standing desks 120) (deskOf leftOn desks) (left-standing desks) n (128 * n + 128 - 128 * n) (a .left .now)
           (f .leave-side .last .1 .1 .1 .0) wide (s .pre .1 .0) (f .leave-side .ensures),
-      row-left (a .layout) (standing desks 128) (rightAt desks) (right-standing desks) n (128 * n + 128 - 128 * n) (a .right .now)
+      row-left (a .layout) (standing desks 128) (deskOf rightOn desks) (right-standing desks) n (128 * n + 128 - 128 * n) (a .right .now)
           (r .leave-side2 .last .1 .1 .1 .0) wide (s .pre .1 .1) (r .leave-side2 .ensures),
     )
 

@@ -8,7 +8,7 @@ use Rattle.layout.specs.declared.Layout.the-variants.{Bands20, Bands34}
 use Rattle.layout.specs.Numbers.{splitOf, unsplitFromOf}
 use Rattle.layout.proofs.Bounds.{bounds}
 use Rattle.standard.specs.Hybrid.{synthesised}
-use Rattle.ps_allpass_channels.specs.Leaving.{standing}
+use Rattle.ps_allpass_channels.specs.Desks.{standing}
 use Rattle.ps_allpass_channels.proofs.Leaving.{rowed-then, band-unsplit}
 use Rattle.ps_allpass_channels.proofs.rows.leave_side.Statement.{statement}
 use Rattle.ps_allpass_channels.proofs.rows.leave_side.Tie as tie

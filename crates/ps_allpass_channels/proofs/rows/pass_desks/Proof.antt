@@ -7,7 +7,7 @@ use native.Mathlib.Omega.{arith}
 use lib.Ieee.{Float}
 use Rattle.complex.specs.declared.Complex.{Complex}
 use Rattle.planar.specs.Cells.{cell}
-use Rattle.ps_allpass_channels.specs.Leaving.{Rowed}
+use Rattle.ps_allpass_channels.specs.Desks.{Rowed}
 use Rattle.ps_allpass_channels.proofs.Leaving.{rowed-none, rowed-then}
 use Rattle.ps_allpass_channels.proofs.rows.pass_desks.Statement.{statement}
 use Rattle.ps_allpass_channels.proofs.rows.pass_desks.Tie as tie

@@ -6,7 +6,7 @@ use borrow.Author.Needs.{needs}
 use native.Mathlib.Omega.{arith}
 use lib.Ieee.{Float}
 use Rattle.complex.specs.declared.Complex.{Complex}
-use Rattle.ps_allpass_channels.specs.Leaving.{standing, Rowed}
+use Rattle.ps_allpass_channels.specs.Desks.{standing, Rowed}
 use Rattle.ps_allpass_channels.proofs.Leaving.{rowed-none, rowed-next}
 use Rattle.ps_allpass_channels.proofs.rows.pass_low.Statement.{statement}
 use Rattle.ps_allpass_channels.proofs.rows.pass_low.Tie as tie

@@ -7,7 +7,7 @@ use native.Mathlib.Omega.{arith}
 use lib.Ieee.{Float}
 use Rattle.complex.specs.declared.Complex.{Complex}
 use Rattle.planar.specs.Cells.{cell}
-use Rattle.ps_allpass_channels.specs.Leaving.{standing, Rowed}
+use Rattle.ps_allpass_channels.specs.Desks.{standing, Rowed}
 use Rattle.ps_allpass_channels.proofs.Leaving.{rowed-then, rowed-next}
 use Rattle.ps_allpass_channels.proofs.rows.pass_unsplit.Statement.{statement}
 use Rattle.ps_allpass_channels.proofs.rows.pass_unsplit.Tie as tie

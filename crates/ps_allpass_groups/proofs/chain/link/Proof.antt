@@ -12,11 +12,10 @@ returns c =
     let add = put .before .before in
     let scale = add .before in
     let mul = scale .before in
-    let at = mul .before in
-    record {
-      state = rw (put .put .ensures, add .add .ensures, scale .scale .ensures, mul .mul .ensures, at .at .ensures) refl;
-      output = rw (c .sub .ensures, c .before .scale2 .ensures, add .add .ensures, scale .scale .ensures, mul .mul .ensures, at .at .ensures) refl;
-    }
+    let at = mul .before in (
+      rw (put .put .ensures, add .add .ensures, scale .scale .ensures, mul .mul .ensures, at .at .ensures) refl,
+      rw (c .sub .ensures, c .before .scale2 .ensures, add .add .ensures, scale .scale .ensures, mul .mul .ensures, at .at .ensures) refl,
+    )
 
 pub link-spec : {M : Type 1} → statement M
 link-spec =

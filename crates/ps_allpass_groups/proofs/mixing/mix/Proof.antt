@@ -6,7 +6,6 @@ use native.Mathlib.Omega.{arith}
 use Rattle.lists.specs.Part.{put}
 use Rattle.ps_allpass_groups.specs.declared.lanes.Pair.{Pair}
 use Rattle.ps_allpass_groups.specs.Lanes.{flat}
-use Rattle.ps_allpass_groups.specs.Mixing.{sidesOf}
 use Rattle.ps_allpass_groups.proofs.Sides.{both-put, is-left, is-right}
 use Rattle.ps_allpass_groups.proofs.mixing.mix.Statement.{statement}
 use Rattle.ps_allpass_groups.proofs.mixing.mix.Tie as tie
@@ -25,7 +24,6 @@ part-put-end-2 c =
     omega (arith, c .before .desk .given, start .pre)
 
 returns : tie.Need-returns
-unfolding sidesOf
 returns c =
     let second = c .before .before in
     let first = second .before .before .before .before in

@@ -45,12 +45,12 @@ weigh-requires c κs =
     let at = 128 * n + 2 * a .span .from in
     let then = 24 * ((d .position + n) % 14) + 2 * (a .span .from - d .first) in (
       (s .pre .0 .0, omega arith),
-      record {
-        samples-long = lent-long at k (at + k - at) (a .input .now) (width at k) (omega arith);
-        delayed-long = lent-long then k (then + k - then) (a .before .now) (width then k) (row-room n (s .pre .1 .1) (t .if1 .taken));
-        left-long = lent-long at k (at + k - at) (l .loop .left) (width at k) (omega (arith, l .loop .inv .lefts .long));
-        right-long = lent-long at k (at + k - at) (l .loop .right) (width at k) (omega (arith, l .loop .inv .rights .long));
-      },
+      (
+        lent-long at k (at + k - at) (a .input .now) (width at k) (omega arith),
+        lent-long then k (then + k - then) (a .before .now) (width then k) (row-room n (s .pre .1 .1) (t .if1 .taken)),
+        lent-long at k (at + k - at) (l .loop .left) (width at k) (omega (arith, l .loop .inv .lefts .long)),
+        lent-long at k (at + k - at) (l .loop .right) (width at k) (omega (arith, l .loop .inv .rights .long)),
+      ),
     )
 
 weigh-requires-2 : tie.Need-weigh-requires-2 Inv-loop μ-loop
@@ -64,12 +64,12 @@ weigh-requires-2 c κs =
     let at = 128 * n + 2 * a .span .from in
     let then = 128 * (n - a .span .delay .slots) + 2 * a .span .from in (
       (s .pre .0 .0, omega arith),
-      record {
-        samples-long = lent-long at k (at + k - at) (a .input .now) (width at k) (omega arith);
-        delayed-long = lent-long then k (then + k - then) (a .input .now) (width then k) (omega arith);
-        left-long = lent-long at k (at + k - at) (l .loop .left) (width at k) (omega (arith, l .loop .inv .lefts .long));
-        right-long = lent-long at k (at + k - at) (l .loop .right) (width at k) (omega (arith, l .loop .inv .rights .long));
-      },
+      (
+        lent-long at k (at + k - at) (a .input .now) (width at k) (omega arith),
+        lent-long then k (then + k - then) (a .input .now) (width then k) (omega arith),
+        lent-long at k (at + k - at) (l .loop .left) (width at k) (omega (arith, l .loop .inv .lefts .long)),
+        lent-long at k (at + k - at) (l .loop .right) (width at k) (omega (arith, l .loop .inv .rights .long)),
+      ),
     )
 
 loop-again : tie.Need-loop-again Inv-loop μ-loop
@@ -84,6 +84,7 @@ loop-again c =
     let k = 2 * count in
     let at = 128 * n + 2 * from in
     let frame = s .pre .1 .0 in
+    let rows = s .pre .1 .1 in
     let more : n < a .slots = c .before .before .before .loop-test .taken in
     ⊎-elim
     (λ w.
@@ -93,13 +94,13 @@ loop-again c =
       lefts =
           rw (w .11)
           (banding-kept leftOf (a .runs .now) (a .gains .now) (a .input .now) (a .before .now) d from count (a .slots)
-          (l .loop .inv .lefts) frame (frame .left-long) more (at + k - at) (then + k - then) (width at k) (width then k)
-          (w .6 .last .1 .1 .1 .1 .1 .1 .0) (w .6 .kept .1 .1 .1 .1 .1 .1 .0) (w .0 .taken) (s .pre .1 .1) (w .6 .ensures .0));
+          (l .loop .inv .lefts) rows (frame .left-long) more (at + k - at) (then + k - then) (width at k) (width then k)
+          (w .6 .last .1 .1 .1 .1 .1 .1 .0) (w .6 .kept .1 .1 .1 .1 .1 .1 .0) (w .0 .taken) (w .6 .ensures .0));
       rights =
           rw (w .12)
           (banding-kept rightOf (a .runs .now) (a .gains .now) (a .input .now) (a .before .now) d from count (a .slots)
-          (l .loop .inv .rights) frame (frame .right-long) more (at + k - at) (then + k - then) (width at k) (width then k)
-          (w .6 .last .1 .1 .1 .1 .1 .1 .1 .0) (w .6 .kept .1 .1 .1 .1 .1 .1 .1 .0) (w .0 .taken) (s .pre .1 .1) (w .6 .ensures .1));
+          (l .loop .inv .rights) rows (frame .right-long) more (at + k - at) (then + k - then) (width at k) (width then k)
+          (w .6 .last .1 .1 .1 .1 .1 .1 .1 .0) (w .6 .kept .1 .1 .1 .1 .1 .1 .1 .0) (w .0 .taken) (w .6 .ensures .1));
     })
     (λ w.
     let then = 128 * (n - d .slots) + 2 * from in
@@ -108,12 +109,12 @@ loop-again c =
       lefts =
           rw (w .11)
           (banding-came leftOf (a .runs .now) (a .gains .now) (a .input .now) (a .before .now) d from count (a .slots)
-          (l .loop .inv .lefts) frame (frame .left-long) more (at + k - at) (then + k - then) (width at k) (width then k)
+          (l .loop .inv .lefts) rows (frame .left-long) more (at + k - at) (then + k - then) (width at k) (width then k)
           (w .6 .last .1 .1 .1 .1 .1 .1 .0) (w .6 .kept .1 .1 .1 .1 .1 .1 .0) (w .0 .left) (w .6 .ensures .0));
       rights =
           rw (w .12)
           (banding-came rightOf (a .runs .now) (a .gains .now) (a .input .now) (a .before .now) d from count (a .slots)
-          (l .loop .inv .rights) frame (frame .right-long) more (at + k - at) (then + k - then) (width at k) (width then k)
+          (l .loop .inv .rights) rows (frame .right-long) more (at + k - at) (then + k - then) (width at k) (width then k)
           (w .6 .last .1 .1 .1 .1 .1 .1 .1 .0) (w .6 .kept .1 .1 .1 .1 .1 .1 .1 .0) (w .0 .left) (w .6 .ensures .1));
     })
     (c .if1 .came)

@@ -48,17 +48,17 @@ loop-again c =
       within = omega (arith, more);
       lefts =
           paired-more (l .loop .inv .lefts) (leftDrawn (a .runs .now) (a .n) few x z) (left-drawn (a .runs .now) (a .n) few x z)
-          (omega (arith, more, s .pre .1 .left-long));
+          (omega (arith, more, s .pre .1 .2));
       rights =
           paired-more (l .loop .inv .rights) (rightDrawn (a .runs .now) (a .n) few x z) (right-drawn (a .runs .now) (a .n) few x z)
-          (omega (arith, more, s .pre .1 .right-long));
+          (omega (arith, more, s .pre .1 .3));
     }
 
 returns : tie.Need-returns Inv-loop μ-loop
 returns c =
     let l = c .before in
     let all : l .loop .j ≡ l .before .before .before .before .before .before .before .before .before .args .count = omega (arith, l .loop .inv .within) in
-    (record { each = rw all at (l .loop .inv .lefts .each) }, record { each = rw all at (l .loop .inv .rights .each) })
+    (rw all at (l .loop .inv .lefts .each), rw all at (l .loop .inv .rights .each))
 
 pub weigh-spec : {M : Type 1} → statement M
 weigh-spec =

@@ -8,8 +8,7 @@ use lib.Ieee.{Float}
 use lib.ListN.{length-set}
 use borrow.Author.Tests.{lt-ltb, le-ltb}
 use Rattle.planar.specs.Cells.{cell, overwritten}
-use Rattle.ps_hybrid_analysis.specs.Stages.{Filled}
-use Rattle.ps_hybrid_analysis.proofs.Runs.{filled-more}
+use Rattle.ps_hybrid_analysis.proofs.Runs.{Filled, filled-more, filled-planar}
 use Rattle.ps_hybrid_analysis.proofs.band.ahead.Statement.{statement}
 use Rattle.ps_hybrid_analysis.proofs.band.ahead.Tie as tie
 
@@ -52,7 +51,7 @@ returns : tie.Need-returns Inv-loop μ-loop
 returns c =
     let l = c .before in
     let all : l .loop .j ≡ l .before .args .count = omega arith in
-    rw all at (l .loop .inv .filled)
+    rw all at (filled-planar (l .loop .inv .filled) (l .before .pre .1 .1))
 
 pub ahead-spec : {M : Type 1} → statement M
 ahead-spec =

@@ -1,8 +1,10 @@
 -- `ps_hybrid_analysis::band::gather` meets its contract: the input's slots follow the history's. Assumes nothing.
-use mathlib.Core.Path.{_∙_}
+use mathlib.Core.Path.{ap, _∙_}
 use Prim.Native.Nat.{_+_}
 use native.Mathlib.Omega.{arith}
 use borrow.Author.Needs.{needs}
+use lib.ListN.{length}
+use Rattle.planar.proofs.Cells.{planar-length}
 use Rattle.ps_hybrid_analysis.proofs.Runs.{gathered}
 use Rattle.ps_hybrid_analysis.proofs.band.gather.Statement.{statement}
 use Rattle.ps_hybrid_analysis.proofs.band.gather.Tie as tie
@@ -10,8 +12,7 @@ use Rattle.ps_hybrid_analysis.proofs.band.gather.Tie as tie
 ahead-requires : tie.Need-ahead-requires
 ahead-requires c κs =
     let m = c .before .before .before in
-    let s = m .before .before .before .before .before in
-    ((search needs, (omega arith, omega arith)), (omega arith, m .past .ensures .long ∙ s .pre .1 .1 .1))
+    ((search needs, (omega arith, omega arith)), (omega arith, ap length (m .past .ensures) ∙ planar-length 44 _))
 
 returns : tie.Need-returns
 returns c =
@@ -19,7 +20,7 @@ returns c =
     let m = f .before .before .before .before in
     let s = m .before .before .before .before .before in
     let a = s .args in
-    gathered (a .history .now) (a .input .now) (a .p) (a .slots + 12) (m .past .ensures) (f .ahead .ensures) (s .pre .1 .1 .1) (omega arith)
+    gathered (a .history .now) (a .input .now) (a .p) (a .slots + 12) (a .band .now) _ (m .past .ensures) (f .ahead .ensures) (omega arith)
 
 pub gather-spec : {M : Type 1} → statement M
 gather-spec = tie.close (tie.spec (λ c κs. search needs) (λ c. search needs) ahead-requires (λ c. search needs) returns)

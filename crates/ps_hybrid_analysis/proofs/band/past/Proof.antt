@@ -5,7 +5,7 @@ use native.Mathlib.Omega.{arith}
 use borrow.Author.Needs.{needs}
 use lib.ListN.{length-set}
 use Rattle.planar.specs.Cells.{cell}
-use Rattle.ps_hybrid_analysis.proofs.Runs.{Filling, filled-none, filled-more}
+use Rattle.ps_hybrid_analysis.proofs.Runs.{Filling, filled-none, filled-more, filled-planar}
 use Rattle.ps_hybrid_analysis.proofs.band.past.Statement.{statement}
 use Rattle.ps_hybrid_analysis.proofs.band.past.Tie as tie
 
@@ -30,7 +30,7 @@ returns : tie.Need-returns Inv-loop μ-loop
 returns c =
     let l = c .before in
     let all : l .loop .j ≡ 6 = omega arith in
-    rw all at (l .loop .inv .filled)
+    rw all at (filled-planar (l .loop .inv .filled) (l .before .pre .1))
 
 pub past-spec : {M : Type 1} → statement M
 past-spec =

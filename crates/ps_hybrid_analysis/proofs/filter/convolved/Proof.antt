@@ -1,5 +1,5 @@
 -- `ps_hybrid_analysis::filter::convolved` meets its contract: after m taps the sum is the definition's after m. Assumes nothing.
-use mathlib.Core.Path.{_≡_, ap}
+use mathlib.Core.Path.{_≡_, sym, ap, _∙_}
 use Prim.Native.Nat.{ℕ, _+_, _-_, _≤_}
 use native.Mathlib.Numerals.{add-one}
 use native.Mathlib.Omega.{arith}
@@ -8,8 +8,9 @@ use Rattle.complex.specs.declared.Complex.{Complex}
 use Rattle.complex.specs.Operations.{sum, product}
 use Rattle.planar.specs.Cells.{cell}
 use Rattle.planar.proofs.Cells.{by-parts}
-use Rattle.ps_hybrid_analysis.specs.Stages.{convolved}
+use Rattle.standard.specs.Hybrid.{addedTo}
 use Rattle.standard.proofs.Literals.{zero-is}
+use Rattle.ps_hybrid_analysis.proofs.Taps.{convolved, convolved-more}
 use Rattle.ps_hybrid_analysis.proofs.filter.convolved.Statement.{statement}
 use Rattle.ps_hybrid_analysis.proofs.filter.convolved.Tie as tie
 
@@ -24,18 +25,17 @@ abbrev μ-loop : tie.MeasureT-loop
 μ-loop taps band n re₀ im₀ m₀ re im m = 13 - m
 
 loop-holds : tie.Need-loop-holds Inv-loop μ-loop
-unfolding convolved
+unfolding addedTo
 loop-holds c = record { within = omega arith; is = by-parts zero-is zero-is }
 
 loop-again : tie.Need-loop-again Inv-loop μ-loop
-unfolding convolved
 loop-again c =
     let l = c .before .before .before .before .before in
     let s = l .before .args in
     let m = l .loop .m in
     record {
       within = omega arith;
-      is = rw (add-one m) (ap (λ (z : Complex). sum z (product (cell 13 (s .taps .now) m) (cell 44 (s .band .now) (s .n + 12 - m)))) (l .loop .inv .is));
+      is = rw (add-one m) (ap (λ (z : Complex). sum z (product (cell 13 (s .taps .now) m) (cell 44 (s .band .now) (s .n + 12 - m)))) (l .loop .inv .is) ∙ sym (convolved-more (cell 13 (s .taps .now)) (cell 44 (s .band .now)) (s .n) m));
     }
 
 returns : tie.Need-returns Inv-loop μ-loop

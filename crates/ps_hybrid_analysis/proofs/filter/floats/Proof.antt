@@ -44,7 +44,7 @@ same-length : tie.Need-same-length Inv-loop μ-loop
 same-length c = c .before .loop .inv .paired .long
 
 returns : tie.Need-returns Inv-loop μ-loop
-returns c = let l = c .before in let all : l .loop .t ≡ l .before .before .args .order = omega arith in record { at = λ t u. l .loop .inv .paired .each t (omega arith) }
+returns c = let l = c .before in let all : l .loop .t ≡ l .before .before .args .order = omega arith in λ t u. l .loop .inv .paired .each t (omega arith)
 
 pub floats-spec : {M : Type 1} → statement M
 floats-spec =

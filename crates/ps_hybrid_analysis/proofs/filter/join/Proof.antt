@@ -6,8 +6,8 @@ use borrow.Author.Needs.{needs}
 use lib.ListN.{length-set}
 use Rattle.complex.specs.Operations.{sum}
 use Rattle.planar.specs.Cells.{cell}
-use Rattle.ps_hybrid_analysis.specs.Stages.{convolved}
 use Rattle.ps_hybrid_analysis.proofs.Runs.{Filling, filled-none, filled-more, filled-planar}
+use Rattle.ps_hybrid_analysis.proofs.Taps.{convolved}
 use Rattle.ps_hybrid_analysis.proofs.filter.join.Statement.{statement}
 use Rattle.ps_hybrid_analysis.proofs.filter.join.Tie as tie
 

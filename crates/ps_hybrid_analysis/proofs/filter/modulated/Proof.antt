@@ -8,14 +8,14 @@ use lib.Ieee.{Float}
 use Rattle.decimals.specs.declared.Prototype.{Prototype}
 use Rattle.planar.specs.Cells.{cell}
 use Rattle.standard.specs.Hybrid.{modulation}
-use Rattle.ps_hybrid_analysis.specs.Stages.{Waves, rootsOf, orderOf, turnOf}
-use Rattle.ps_hybrid_analysis.proofs.Taps.{turn-below, modulation-is, complex-tap, real-tap}
+use Rattle.ps_hybrid_analysis.specs.Stages.{Waves, turnOf}
+use Rattle.ps_hybrid_analysis.proofs.Taps.{complex-tap, real-tap}
 use Rattle.ps_hybrid_analysis.proofs.filter.modulated.Statement.{statement}
 use Rattle.ps_hybrid_analysis.proofs.filter.modulated.Tie as tie
 
 -- the pair at the turn's place of the prototype's own roots
-root : (p : Prototype) (q m : ℕ) (turn : ℕ) (waves : List Float) → Waves (rootsOf p) (orderOf p) waves → turn ≡ turnOf p q m → cell 1 waves (2 * turn) ≡ modulation p q m
-root p q m turn waves w t = rw t (w .at (turnOf p q m) (turn-below p q m) ∙ modulation-is p q m)
+root : (p : Prototype) (q m : ℕ) (turn : ℕ) (waves : List Float) → Waves p waves → turn ≡ turnOf p q m → cell 1 waves (2 * turn) ≡ modulation p q m
+root p q m turn waves w t = rw t (w .at q m)
 
 shared-read : tie.Need-shared-slice-read-t12
 shared-read c =
@@ -38,7 +38,7 @@ returns c =
     let t = i .before .before in
     let s = t .before .before in
     let a = s .args in
-    complex-tap (a .prototype) (a .g) (a .q) (a .m) (cell 1 (a .waves .now) (2 * t .turn .result))
+    complex-tap (a .prototype) (a .g) (a .q) (a .m) (cell 1 (a .waves .now) (2 * t .turn .result)) (s .pre .0 .2)
     (root (a .prototype) (a .q) (a .m) (t .turn .result) (a .waves .now) (s .pre .1 .1) (t .turn .ensures .0))
     (sym (i .before .is-complex .ensures) ∙ i .if1 .taken)
 
@@ -48,7 +48,7 @@ returns-2 c =
     let t = i .before .before in
     let s = t .before .before in
     let a = s .args in
-    real-tap (a .prototype) (a .g) (a .q) (a .m) (cell 1 (a .waves .now) (2 * t .turn .result))
+    real-tap (a .prototype) (a .g) (a .q) (a .m) (cell 1 (a .waves .now) (2 * t .turn .result)) (s .pre .0 .2)
     (root (a .prototype) (a .q) (a .m) (t .turn .result) (a .waves .now) (s .pre .1 .1) (t .turn .ensures .0))
     (sym (i .before .is-complex .ensures) ∙ i .if1 .left)
 

@@ -1,17 +1,15 @@
 -- `ps_hybrid_analysis::filter::taps` meets its contract: after m turns the first m taps stand. Assumes nothing.
-use mathlib.Core.Path.{_≡_, ap, _∙_}
+use mathlib.Core.Path.{ap}
 use mathlib.Core.List.{List}
 use Prim.Native.Nat.{ℕ, _-_, _≤_}
 use native.Mathlib.Omega.{arith}
 use borrow.Author.Needs.{needs}
-use lib.Ieee.{Float, nan}
-use lib.ListN.{length, getD, length-set}
+use lib.Ieee.{Float}
+use lib.ListN.{length, length-set}
 use Rattle.complex.specs.declared.Complex.{Complex}
-use Rattle.decimals.specs.Prototypes.{prototypeOf}
 use Rattle.standard.specs.Hybrid.{tap}
-use Rattle.ps_hybrid_analysis.specs.Stages.{Filled, modulated}
-use Rattle.ps_hybrid_analysis.proofs.Runs.{filled-none, filled-more, filled-all}
-use Rattle.ps_hybrid_analysis.proofs.Taps.{prototype-length, tap-is}
+use Rattle.ps_hybrid_analysis.proofs.Runs.{Filled, filled-none, filled-more, filled-all}
+use Rattle.ps_hybrid_analysis.proofs.Taps.{prototype-length, tap-read}
 use Rattle.ps_hybrid_analysis.proofs.filter.taps.Statement.{statement}
 use Rattle.ps_hybrid_analysis.proofs.filter.taps.Tie as tie
 
@@ -31,6 +29,12 @@ loop-holds c = record { within = omega arith; filled = filled-none _ _ _ }
 slice-read : tie.Need-shared-slice-read-modulated Inv-loop μ-loop
 slice-read c = let s = c .before .before .before .before .before .before in omega (arith, ap length (s .pre .0 .1), prototype-length (s .args .prototype))
 
+modulated-requires : tie.Need-modulated-requires Inv-loop μ-loop
+modulated-requires c κs =
+    let l = c .before .before in
+    let s = l .before .before .before .before in
+    ((s .pre .1 .0, omega arith, tap-read (s .args .prototype) (l .loop .m) (s .pre .0 .1) (omega arith)), s .pre .0 .0)
+
 slice-write : tie.Need-slice-write-out Inv-loop μ-loop
 slice-write c = let l = c .before .before .before in omega (arith, l .loop .inv .filled .long, l .before .before .before .before .pre .1 .1)
 
@@ -41,14 +45,10 @@ loop-again : tie.Need-loop-again Inv-loop μ-loop
 loop-again c =
     let l = c .before .before .before in
     let s = l .before .before .before .before in
-    let m = l .loop .m in
-    let read : getD (s .args .g .now) m nan ≡ getD (prototypeOf (s .args .prototype)) m nan = ap (λ (g : List Float). getD g m nan) (s .pre .0 .1) in
     record {
       within = omega arith;
       filled =
-          filled-more (l .loop .inv .filled) (c .modulated .result)
-          (c .modulated .ensures ∙ ap (λ (g : Float). modulated (s .args .prototype) g (s .args .q) m) read ∙ tap-is (s .args .prototype) (s .args .q) m (omega arith))
-          (omega arith) (omega (arith, s .pre .1 .1));
+          filled-more (l .loop .inv .filled) (c .modulated .result) (c .modulated .ensures) (omega arith) (omega (arith, s .pre .1 .1));
     }
 
 same-length : tie.Need-same-length Inv-loop μ-loop
@@ -60,5 +60,5 @@ returns c = let l = c .before in filled-all (l .loop .inv .filled) (omega arith)
 pub taps-spec : {M : Type 1} → statement M
 taps-spec =
     tie.close
-    (tie.spec Inv-loop μ-loop loop-holds (λ c. search needs) slice-read (λ c κs. search needs) (λ c. search needs) slice-write
+    (tie.spec Inv-loop μ-loop loop-holds (λ c. search needs) slice-read modulated-requires (λ c. search needs) slice-write
     (λ c. search needs) (λ c. search needs) slice-write-2 (λ c. search needs) (λ c. omega arith) loop-again same-length returns)

@@ -7,10 +7,10 @@ use Rattle.stages.proofs.sound.mix_all.Statement.{statement}
 use Rattle.stages.proofs.sound.mix_all.Tie as tie
 
 abbrev Inv-loop : tie.InvT-loop
-Inv-loop layout borders count rows fractions samples decorrelated gains slots left₀ right₀ passes k₀ left right k = (k ≤ passes) × ((passes ≤ 50) × ((length left ≡ 3200) × (length right ≡ 3200)))
+Inv-loop layout rows fractions samples decorrelated gains left₀ right₀ passes borders count slots k₀ left right k = (k ≤ passes) × ((passes ≤ 50) × ((length left ≡ 3200) × (length right ≡ 3200)))
 
 abbrev μ-loop : tie.MeasureT-loop
-μ-loop layout borders count rows fractions samples decorrelated gains slots left₀ right₀ passes k₀ left right k = passes - k
+μ-loop layout rows fractions samples decorrelated gains left₀ right₀ passes borders count slots k₀ left right k = passes - k
 
 pub mix-all-spec : {M : Type 1} → statement M
 mix-all-spec =
