@@ -4,8 +4,7 @@ mod lines;
 use layout::Layout;
 use ps_state::PsCarried;
 ghost use mathlib.Core.Path.{_≡_};
-ghost use lib.ListN.{length, replicate};
-ghost use Rattle.standard.specs.Numbers.{zero};
+ghost use lib.ListN.{length};
 ghost use Rattle.ps_memory.specs.Place.{numbers, headLong, soundAt, layoutIn, wide, slotsIn, turnIn, headImage, smallImage, carriedIn, loadedFrom, storedIn, startedIn};
 
 // The places of specs/Place: layout, cued, slots and turn, then what the lines have left, the phase indices, two to a float, and the sound.
@@ -119,20 +118,12 @@ pub fn store(carried: PsCarried, memory: &mut [f64])
     }
 }
 
-fn silence(xs: &mut [f64])
-    ensures { λ _. ⌜ now (xs .exit) ≡ replicate (length (now (xs .entry))) zero ⌝ }
-{
-    for i in 0..xs.len() {
-        xs[i] = 0.0;
-    }
-}
-
 // Makes a memory that of a fresh decoder for an asked number of slots, whatever it held; one of another length is left as it is.
 pub fn start(asked: usize, memory: &mut [f64])
     ensures { λ _. ⌜ now (memory .exit) ≡ startedIn asked (now (memory .entry)) ⌝ }
 {
     if memory.len() == NUMBERS {
-        silence(&mut memory[SOUND..NUMBERS]);
+        ps_state::silence(&mut memory[SOUND..NUMBERS]);
         store_small(ps_state::fresh_carried(asked), &mut memory[0..SOUND]);
     }
 }
