@@ -6,5 +6,6 @@ pub mod Rows
 pub mod Maps
 pub mod Alls
 pub mod Ring
+pub mod Queue
 pub mod Padded
 pub mod First

@@ -1,5 +1,5 @@
 -- A ring gives what came d slots ago: a write at the position adds one entry to the history, and every other cell grows one slot older. Assumes nothing.
-use Prim.Native.Nat.{ℕ, zero, suc, _+_, _-_, _%_, _≤_, _<_}
+use Prim.Native.Nat.{ℕ, suc, _+_, _-_, _%_, _≤_, _<_}
 use native.Mathlib.Omega.{arith}
 use native.Mathlib.Numerals.{add-one}
 use native.Mathlib.Nat.{mod-lt, mod-eq-of-lt, mod-self, mod-add-mod, mod-eq-sub-mod, suc-mod, eq-or-lt-of-le}
@@ -12,7 +12,7 @@ use lib.ListN.{length, getD, set}
 use lib.Seq.{getD-set-same, getD-set-other}
 use borrow.Author.Tests.{eq-eqb, ne-eqb}
 use Rattle.lists.specs.Rows.{tabulate}
-use Rattle.lists.specs.Ring.{back, Ring, turned, age, Queue}
+use Rattle.lists.specs.Ring.{back, Ring, turned, age}
 use Rattle.lists.proofs.Maps.{tabulate-at}
 
 -- the entry that was written last but j
@@ -191,11 +191,3 @@ module _ {A : Type 0} where
     where
       inside : t % d < d
       inside = mod-lt t some
-
-  -- ---- the queue: every cell moves by one
-  pub queue-push : {z : A} {d : ℕ} {cell : ℕ → A} {h : List A} (new : ℕ → A) (x : A) → Queue z d cell h → new 0 ≡ x → ((i : ℕ) → suc i < d → new (suc i) ≡ cell i) → Queue z d new (x ∷ h)
-  queue-push {z} {d} {cell} {h} new x q here moved = record { holds = go }
-    where
-      go : (i : ℕ) → i < d → new i ≡ back z i (x ∷ h)
-      go zero l = here
-      go (suc i) l = moved i l ∙ q .holds i (omega arith)

@@ -1,4 +1,4 @@
--- A delay by d slots: a history, newest first, of which a ring of d cells with a position, or a queue of d cells, keeps what is still to be read.
+-- A delay by d slots: a history, newest first, of which a ring of d cells with a position keeps what is still to be read.
 use mathlib.Core.Path.{_≡_}
 use mathlib.Core.Bool.{cond}
 use mathlib.Core.List.{List}
@@ -23,7 +23,3 @@ turned d at = cond (eqb (suc at) d) 0 (suc at)
 -- the same by the number of slots so far: how many entries before the newest one that in cell j came; and where the one that came so many before stands
 abbrev pub age : ℕ → ℕ → ℕ → ℕ
 age d t j = (t + (d - suc j)) % d
-
--- cells that move by one each slot: cell i is i entries back
-pub record Queue {A : Type 0} (z : A) (d : ℕ) (cell : ℕ → A) (h : List A) : Type 0 where
-  pub holds : (i : ℕ) → i < d → cell i ≡ back z i h

@@ -1,11 +1,15 @@
 // Frames: what a run carries from line to line, and what is done for each.
-use crate::files;
 use crate::report;
 use crate::report::Tally;
-use crate::rows;
+use programme::rows;
 ghost use mathlib.Core.Path.{_≡_};
 ghost use Prim.Native.Nat.{_≤_};
 ghost use lib.ListN.{length};
+
+// The places of the outputs' names among the arguments, behind those of the lines and the samples.
+pub const LEFT: usize = 5;
+
+pub const RIGHT: usize = 6;
 
 pub struct Streams {
     pub lines: i32,
@@ -88,8 +92,8 @@ fn write_frame(streams: Streams, slots: usize, left: &[f64], right: &[f64]) -> b
     requires { ⌜ (slots ≤ 32) × (length (now left) ≡ 4096) × (length (now right) ≡ 4096) ⌝ }
 {
     let numbers = slots * 128;
-    if rows::write(files::LEFT, streams.left, &left[..numbers]) {
-        return rows::write(files::RIGHT, streams.right, &right[..numbers]);
+    if rows::write(LEFT, streams.left, &left[..numbers]) {
+        return rows::write(RIGHT, streams.right, &right[..numbers]);
     }
     false
 }

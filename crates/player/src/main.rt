@@ -1,14 +1,13 @@
 // Plays a programme: a frame for each line of a file of cue lines, from the rows of a file of samples to the rows of two files, left and right.
 // It holds one line and one frame at a time, so that its memory does not grow with the programme.
-mod arguments;
-mod files;
 mod frames;
 mod report;
-mod rows;
 
-use arguments::Number;
 use frames::Run;
 use frames::Streams;
+use programme::arguments;
+use programme::arguments::Number;
+use programme::files;
 
 // Plays the lines to their end.
 fn play(before: Run) -> Run {
@@ -62,11 +61,11 @@ fn open(asked: usize, edge: usize) {
     if samples < 0 {
         return;
     }
-    let left = files::open_to_write(files::LEFT);
+    let left = files::open_to_write(frames::LEFT);
     if left < 0 {
         return;
     }
-    let right = files::open_to_write(files::RIGHT);
+    let right = files::open_to_write(frames::RIGHT);
     if right < 0 {
         return;
     }
@@ -77,6 +76,15 @@ fn open(asked: usize, edge: usize) {
         right: right,
     };
     conclude(play(frames::start(streams, asked, edge)));
+}
+
+// Whether each file has a name, and nothing comes after the names.
+fn all_named() -> bool {
+    arguments::named(files::LINES)
+        & arguments::named(files::SAMPLES)
+        & arguments::named(frames::LEFT)
+        & arguments::named(frames::RIGHT)
+        & (os::arg_count() == 7)
 }
 
 // The launcher has tried the arguments and says how to write them; here one that says nothing is only refused.
@@ -91,7 +99,7 @@ fn main() {
         report::misused();
         return;
     };
-    if !arguments::all_named() {
+    if !all_named() {
         report::misused();
         return;
     }

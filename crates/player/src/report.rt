@@ -80,7 +80,7 @@ pub fn summary(tally: Tally) {
 pub fn short(rows: u64, needed: u64) {
     io::write_all(STDERR_FILENO, b"lefasumu: ");
     let mut name = io::buffer();
-    let used = os::arg(crate::files::SAMPLES, &mut name);
+    let used = os::arg(programme::files::SAMPLES, &mut name);
     io::write_all(STDERR_FILENO, &name[..used]);
     io::write_all(STDERR_FILENO, b": too short: it has ");
     io::print_decimal(STDERR_FILENO, rows);

@@ -66,6 +66,9 @@ holding-at asked c (suc i) =
           (kept .near) (near-played (playingOf s) (carried (fresh asked) c i) (c i) (before .near) .after);
     }
 
+pub near-at : (asked : ℕ) (c : ℕ → Call) (i : ℕ) → Near (playingOf (decoderAt asked c i)) (carried (fresh asked) c i)
+near-at asked c i = holding-at asked c i .near
+
 -- a run of the decoder is the definitions' run
 pub run-is : (asked : ℕ) (c : ℕ → Call) (i : ℕ) → Told asked c i
 unfolding playedBy

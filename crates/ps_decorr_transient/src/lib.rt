@@ -95,10 +95,10 @@ fn add_powers(layout: Layout, samples: &[f64], input: &[f64], slots: usize, gain
 }
 
 // A band's detector.
-struct Follower {
-    peak: f64,
-    smooth: f64,
-    difference: f64,
+pub struct Follower {
+    pub peak: f64,
+    pub smooth: f64,
+    pub difference: f64,
 }
 
 fn recall(detectors: &[f64], b: usize) -> Follower
@@ -136,8 +136,8 @@ fn step(now: Follower, power: f64) -> Follower
     }
 }
 
-// The ducking factor that it gives.
-fn factor(now: Follower) -> f64
+// The ducking factor that a detector gives.
+pub fn factor(now: Follower) -> f64
     ensures { λ r. ⌜ r ≡ ducking (detectorIn now) ⌝ }
 {
     let factors = decimals::detector();

@@ -205,7 +205,8 @@ pub fn together(carried: PsCarried, sound: &[f64; SOUND]) -> PsDecoder
 
 // ---- before a frame
 
-fn same(a: Layout, b: Layout) -> bool
+// Whether two layouts are one.
+pub fn same(a: Layout, b: Layout) -> bool
     ensures { λ r. ⌜ r ≡ sameLayout a b ⌝ }
 {
     match a {
@@ -253,7 +254,7 @@ fn switched(carried: PsCarried, layout: Layout, sound: &mut [f64]) -> PsCarried
 }
 
 // The channel from which a frame's own reset clears the delays.
-fn cleared_place(layout: Layout, edge: usize, cued: bool) -> usize
+pub fn cleared_place(layout: Layout, edge: usize, cued: bool) -> usize
     ensures { λ r. ⌜ r ≡ clearedPlace layout edge cued ⌝ }
 {
     if cued { layout.reset_from(edge) } else { 0 }

@@ -1,13 +1,11 @@
 // Holds the decoder to the Rust, over the stream of runs on standard input (oracle/README.md, "Streams"): every answer, every bit of both outputs of an
 // accepted frame, and that any other call leaves both outputs as they were. It says how many calls are so, or which is the first that is not. The decoder is
 // the one that C links: its state lies in lent memory.
-mod bytes;
-mod head;
-mod input;
 mod sides;
 mod text;
 
-use head::Head;
+use run_stream::head::Head;
+use run_stream::input;
 use text::Place;
 
 // Runs begun, calls of the last of them that agree, and all calls by what they answered.

@@ -1,10 +1,10 @@
 // Both outputs of a call, compared with what the stream says.
-use crate::bytes;
-use crate::head;
-use crate::head::Head;
-use crate::input;
 use crate::text;
 use crate::text::Place;
+use run_stream::head;
+use run_stream::head::Head;
+use run_stream::input;
+use run_stream::numbers;
 ghost use Prim.Native.Nat.{_≤_};
 
 // What an output holds before a call: more than any output number can be.
@@ -45,7 +45,7 @@ fn differs_at(side: &[f64], count: usize, wanted: &[u8]) -> usize
 {
     let mut i = 0;
     while i < count {
-        if bytes::bits_at(side, i) != bytes::long_at(wanted, i * 8) {
+        if numbers::bits_at(side, i) != numbers::long_at(wanted, i * 8) {
             return i;
         }
         i += 1;
@@ -56,8 +56,8 @@ fn differs_at(side: &[f64], count: usize, wanted: &[u8]) -> usize
 fn say_difference(at: Place, word: &[u8], side: &[f64], place: usize, wanted: &[u8])
     requires { ⌜ place ≤ 4352 ⌝ }
 {
-    let bits = bytes::bits_at(side, place);
-    let other = bytes::long_at(wanted, place * 8);
+    let bits = numbers::bits_at(side, place);
+    let other = numbers::long_at(wanted, place * 8);
     text::differs(at, word, place, bits, other);
 }
 

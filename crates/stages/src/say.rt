@@ -91,5 +91,5 @@ pub fn broken(head: Head, text: &[u8]) {
 pub fn end(frames: u64, runs: u64) {
     say_number(b"held: ", frames);
     say_number(b" frames in ", runs);
-    say(b" runs, the all-pass channels at each stage and both sides whole, bit for bit\n");
+    say(b" runs, every channel at each stage and both sides, bit for bit\n");
 }

@@ -1,6 +1,6 @@
 // What `oracle stage-runs` writes, read piece by piece.
-use super::words;
 use libc::STDIN_FILENO;
+use run_stream::numbers;
 ghost use mathlib.Core.Path.{_≡_};
 ghost use Prim.Native.Nat.{_*_, _≤_};
 ghost use lib.ListN.{length};
@@ -36,20 +36,20 @@ pub fn read_first(bytes: &mut [u8], count: usize) -> bool
     read(&mut bytes[..count])
 }
 
-fn head_of(bytes: &[u8]) -> Head
-    requires { ⌜ length (now bytes) ≡ 48 ⌝ }
-{
+fn head_of(bytes: &[u8]) -> Head {
+    let low = numbers::byte_at(bytes, 2) as usize;
+    let high = numbers::byte_at(bytes, 3) as usize;
     Head {
-        kind: bytes[0],
-        starts: bytes[1],
-        line: words::short_at(bytes, 2) as usize,
-        number: words::half_at(bytes, 4) as u64,
-        seed: words::word_at(bytes, 8),
-        asked: words::word_at(bytes, 16) as usize,
-        edge: words::word_at(bytes, 24) as usize,
-        input: words::half_at(bytes, 32) as usize,
-        hybrid: words::half_at(bytes, 36) as usize,
-        output: words::half_at(bytes, 40) as usize,
+        kind: numbers::byte_at(bytes, 0),
+        starts: numbers::byte_at(bytes, 1),
+        line: low + 256 * high,
+        number: numbers::short_at(bytes, 4) as u64,
+        seed: numbers::long_at(bytes, 8),
+        asked: numbers::long_at(bytes, 16) as usize,
+        edge: numbers::long_at(bytes, 24) as usize,
+        input: numbers::short_at(bytes, 32) as usize,
+        hybrid: numbers::short_at(bytes, 36) as usize,
+        output: numbers::short_at(bytes, 40) as usize,
     }
 }
 

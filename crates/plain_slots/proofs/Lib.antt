@@ -1,0 +1,4 @@
+pub mod Carried
+pub mod Reading
+pub mod Bands
+pub mod Sides

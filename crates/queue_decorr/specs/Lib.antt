@@ -1,0 +1,5 @@
+pub mod Queues
+pub mod State
+pub mod Frame
+pub mod Slots
+pub mod Run
