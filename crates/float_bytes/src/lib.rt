@@ -2,9 +2,9 @@
 ghost use mathlib.Core.Path.{_≡_};
 ghost use mathlib.Core.List.{_++_};
 ghost use Prim.Native.Nat.{_+_, _*_, _≤_};
-ghost use lib.ListN.{length, take, drop};
+ghost use lib.ListN.{length, getD, take, drop};
 ghost use lib.Ieee.{binary64, ofBits, toBits};
-ghost use Rattle.float_bytes.specs.Bytes.{half, word, four, eight, floatsOf, bytesOf, moved, filled, written};
+ghost use Rattle.float_bytes.specs.Bytes.{half, word, halfAt, wordAt, four, eight, floatsOf, bytesOf, moved, filled, written};
 
 // The float of a pattern. Every NaN pattern gives a NaN, of no particular sign or payload.
 pub fn float_of(n: u64) -> f64
@@ -56,6 +56,37 @@ fn read_word(b: &[u8], at: usize) -> u64
     let lo = read_half(b, at);
     let hi = read_half(b, at + 4);
     (lo as u64) + 4294967296 * (hi as u64)
+}
+
+// The byte at a place, and the numbers of the four and of the eight bytes from there on; 0 where there are not as many.
+pub fn byte_at(b: &[u8], at: usize) -> u8
+    ensures { λ r. ⌜ r ≡ getD (now (b .entry)) at 0 ⌝ }
+{
+    if at < b.len() { b[at] } else { 0 }
+}
+
+pub fn half_at(b: &[u8], at: usize) -> u32
+    ensures { λ r. ⌜ r ≡ halfAt (now (b .entry)) at ⌝ }
+{
+    if b.len() < 4 {
+        return 0;
+    }
+    if b.len() - 4 < at {
+        return 0;
+    }
+    read_half(b, at)
+}
+
+pub fn word_at(b: &[u8], at: usize) -> u64
+    ensures { λ r. ⌜ r ≡ wordAt (now (b .entry)) at ⌝ }
+{
+    if b.len() < 8 {
+        return 0;
+    }
+    if b.len() - 8 < at {
+        return 0;
+    }
+    read_word(b, at)
 }
 
 fn write_half(out: &mut [u8], at: usize, n: u32)

@@ -3,6 +3,7 @@ use crate::files;
 ghost use mathlib.Core.Path.{_≡_};
 ghost use Prim.Native.Nat.{_+_, _≤_, min};
 ghost use lib.ListN.{length};
+ghost use Rattle.programme.specs.Rows.{carriedRows};
 
 // How many rows came from the file.
 pub struct Fetched {
@@ -72,7 +73,9 @@ pub fn fetch(file: i32, slots: usize, ahead: usize, input: &mut [f64]) -> Fetche
 }
 
 // The six rows ahead of a frame of 32 slots at most are the next one's first. Nothing changes where `input` has not 38 rows.
-pub fn carry(input: &mut [f64], slots: usize) {
+pub fn carry(input: &mut [f64], slots: usize)
+    ensures { λ _. ⌜ now (input .exit) ≡ carriedRows slots (now (input .entry)) ⌝ }
+{
     if input.len() != 4864 {
         return;
     }

@@ -4,8 +4,16 @@ use crate::text::Place;
 use run_stream::head;
 use run_stream::head::Head;
 use run_stream::input;
-use run_stream::numbers;
 ghost use Prim.Native.Nat.{_≤_};
+
+// The pattern at a place of a row, 0 past the end.
+fn bits_at(row: &[f64], at: usize) -> u64 {
+    if at < row.len() {
+        float_bytes::bits_of(row[at])
+    } else {
+        0
+    }
+}
 
 // What an output holds before a call: more than any output number can be.
 const MARK: f64 = 1.0e300;
@@ -45,7 +53,7 @@ fn differs_at(side: &[f64], count: usize, wanted: &[u8]) -> usize
 {
     let mut i = 0;
     while i < count {
-        if numbers::bits_at(side, i) != numbers::long_at(wanted, i * 8) {
+        if bits_at(side, i) != float_bytes::word_at(wanted, i * 8) {
             return i;
         }
         i += 1;
@@ -56,8 +64,8 @@ fn differs_at(side: &[f64], count: usize, wanted: &[u8]) -> usize
 fn say_difference(at: Place, word: &[u8], side: &[f64], place: usize, wanted: &[u8])
     requires { ⌜ place ≤ 4352 ⌝ }
 {
-    let bits = numbers::bits_at(side, place);
-    let other = numbers::long_at(wanted, place * 8);
+    let bits = bits_at(side, place);
+    let other = float_bytes::word_at(wanted, place * 8);
     text::differs(at, word, place, bits, other);
 }
 

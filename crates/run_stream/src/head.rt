@@ -1,5 +1,6 @@
 // The head of a record, which says what follows it.
-use crate::numbers;
+ghost use mathlib.Core.Path.{_≡_};
+ghost use Rattle.run_stream.specs.Heads.{headOf, fitsIn};
 
 // Its bytes. The last eight, a call's place and count (oracle/README.md, "Streams"), are not looked at.
 pub const SIZE: usize = 56;
@@ -30,32 +31,35 @@ pub struct Head {
     pub right: usize,
 }
 
-fn count_at(record: &[u8], at: usize) -> usize {
-    numbers::short_at(record, at) as usize
-}
-
-pub fn read(record: &[u8]) -> Head {
-    let step = numbers::long_at(record, 16);
+// The head that the bytes of a record have; what is not there is 0.
+pub fn read(bytes: &[u8]) -> Head
+    ensures { λ r. ⌜ r ≡ headOf (now (bytes .entry)) ⌝ }
+{
     Head {
-        kind: numbers::byte_at(record, 0),
-        answer: numbers::byte_at(record, 1),
-        number: numbers::long_at(record, 8) as usize,
-        state: numbers::short_at(record, 4),
-        step: float_bytes::float_of(step),
-        width: numbers::byte_at(record, 2) as usize,
-        reach: count_at(record, 24),
-        given: count_at(record, 28),
-        line: count_at(record, 32),
-        input: count_at(record, 36),
-        left: count_at(record, 40),
-        right: count_at(record, 44),
+        kind: float_bytes::byte_at(bytes, 0),
+        answer: float_bytes::byte_at(bytes, 1),
+        number: float_bytes::word_at(bytes, 8) as usize,
+        state: float_bytes::half_at(bytes, 4),
+        step: float_bytes::float_of(float_bytes::word_at(bytes, 16)),
+        width: float_bytes::byte_at(bytes, 2) as usize,
+        reach: float_bytes::half_at(bytes, 24) as usize,
+        given: float_bytes::half_at(bytes, 28) as usize,
+        line: float_bytes::half_at(bytes, 32) as usize,
+        input: float_bytes::half_at(bytes, 36) as usize,
+        left: float_bytes::half_at(bytes, 40) as usize,
+        right: float_bytes::half_at(bytes, 44) as usize,
     }
 }
 
 impl Head {
-    // The replay has room for what the record asks.
-    pub fn fits(self) -> bool {
-        let lent = self.input <= INPUT && self.left <= SIDE && self.right <= SIDE;
-        lent && self.line <= LINE && self.given <= INPUT
+    // There is room for what the record asks.
+    pub fn fits(self) -> bool
+        ensures { λ r. ⌜ r ≡ fitsIn self ⌝ }
+    {
+        (self.input <= INPUT)
+            & (self.left <= SIDE)
+            & (self.right <= SIDE)
+            & (self.line <= LINE)
+            & (self.given <= INPUT)
     }
 }

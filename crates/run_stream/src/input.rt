@@ -1,15 +1,20 @@
 // What a call hands in: the line's characters and the samples, from standard input.
 use crate::head;
 use crate::head::Head;
-use crate::numbers;
 use libc::STDIN_FILENO;
+ghost use mathlib.Core.Path.{_≡_};
+ghost use mathlib.Core.Bool.{true};
 ghost use Prim.Native.Nat.{_≤_, _<_};
 ghost use lib.ListN.{length};
 
-// Reads that many bytes to the front of lent memory. False where there is no room for them, or the input ends before.
-pub fn fill(memory: &mut [u8], count: usize) -> bool {
-    let most = limits::least(count, memory.len());
-    io::read_full(STDIN_FILENO, &mut memory[..most]) == count
+// Reads that many bytes to the front of lent memory. False, and nothing is read, where there is no room for them; false where the input ends before.
+pub fn fill(memory: &mut [u8], count: usize) -> bool
+    ensures { λ r. ⌜ (r ≡ true → count ≤ length (now (memory .entry))) ⌝ }
+{
+    if memory.len() < count {
+        return false;
+    }
+    io::read_full(STDIN_FILENO, &mut memory[..count]) == count
 }
 
 // The next record's head, of a kind that no record has where the input ends before it.
@@ -63,9 +68,9 @@ fn noise(samples: &mut [f64], head: Head) {
 fn give(samples: &mut [f64], given: &[u8], at: usize)
     requires { ⌜ at ≤ 67584 ⌝ }
 {
-    let place = numbers::short_at(given, at) as usize;
+    let place = float_bytes::half_at(given, at) as usize;
     if place < samples.len() {
-        samples[place] = float_bytes::float_of(numbers::long_at(given, at + 4));
+        samples[place] = float_bytes::float_of(float_bytes::word_at(given, at + 4));
     }
 }
 

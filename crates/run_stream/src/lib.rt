@@ -1,4 +1,3 @@
 // The stream of runs on standard input (oracle/README.md, "Streams"), record by record: what programs that play it share.
 pub mod head;
 pub mod input;
-pub mod numbers;

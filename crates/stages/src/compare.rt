@@ -38,7 +38,7 @@ fn first_difference(bytes: &[u8], numbers: &[f64], count: usize) -> usize
 {
     let mut i = 0;
     while i < count {
-        if float_bytes::bits_of(numbers[i]) != run_stream::numbers::long_at(bytes, 8 * i) {
+        if float_bytes::bits_of(numbers[i]) != float_bytes::word_at(bytes, 8 * i) {
             return i;
         }
         i += 1;
@@ -57,7 +57,7 @@ fn slot_in(n: usize, numbers: &[f64], count: usize, bytes: &mut [u8]) -> Verdict
         return Verdict::Differs(Difference {
             slot: n,
             place: place,
-            wanted: run_stream::numbers::long_at(bytes, 8 * place),
+            wanted: float_bytes::word_at(bytes, 8 * place),
             found: float_bytes::bits_of(numbers[place]),
         });
     }

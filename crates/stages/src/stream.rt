@@ -1,6 +1,5 @@
 // What `oracle stage-runs` writes, read piece by piece.
 use libc::STDIN_FILENO;
-use run_stream::numbers;
 ghost use mathlib.Core.Path.{_≡_};
 ghost use Prim.Native.Nat.{_*_, _≤_};
 ghost use lib.ListN.{length};
@@ -37,19 +36,19 @@ pub fn read_first(bytes: &mut [u8], count: usize) -> bool
 }
 
 fn head_of(bytes: &[u8]) -> Head {
-    let low = numbers::byte_at(bytes, 2) as usize;
-    let high = numbers::byte_at(bytes, 3) as usize;
+    let low = float_bytes::byte_at(bytes, 2) as usize;
+    let high = float_bytes::byte_at(bytes, 3) as usize;
     Head {
-        kind: numbers::byte_at(bytes, 0),
-        starts: numbers::byte_at(bytes, 1),
+        kind: float_bytes::byte_at(bytes, 0),
+        starts: float_bytes::byte_at(bytes, 1),
         line: low + 256 * high,
-        number: numbers::short_at(bytes, 4) as u64,
-        seed: numbers::long_at(bytes, 8),
-        asked: numbers::long_at(bytes, 16) as usize,
-        edge: numbers::long_at(bytes, 24) as usize,
-        input: numbers::short_at(bytes, 32) as usize,
-        hybrid: numbers::short_at(bytes, 36) as usize,
-        output: numbers::short_at(bytes, 40) as usize,
+        number: float_bytes::half_at(bytes, 4) as u64,
+        seed: float_bytes::word_at(bytes, 8),
+        asked: float_bytes::word_at(bytes, 16) as usize,
+        edge: float_bytes::word_at(bytes, 24) as usize,
+        input: float_bytes::half_at(bytes, 32) as usize,
+        hybrid: float_bytes::half_at(bytes, 36) as usize,
+        output: float_bytes::half_at(bytes, 40) as usize,
     }
 }
 
