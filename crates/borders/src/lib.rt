@@ -1,4 +1,6 @@
 // Slots of a frame, and the borders of its envelopes (source document 000).
+#![tactic(auto)]
+
 ghost use Rattle.std.specs.Prelude.{◌≡◌, ◌<◌, ◌≤◌, ◌-◌, min};
 ghost use Rattle.limits.specs.Limits as limits;
 ghost use Rattle.lists.specs.Padded.{padded};

@@ -1,8 +1,10 @@
 // Complex numbers by value (source document 006). Each operation on a part is rounded once, in the order that is written.
+#![tactic(auto)]
+
 ghost use Rattle.std.specs.Prelude.{◌≡◌};
 ghost use Rattle.complex.specs.Operations.{product, sum, difference, conjugate, scaled, squared_magnitude};
 
-#[derive(Drop)]
+#[derive(Clone, Copy)]
 pub struct Complex {
     pub re: f64,
     pub im: f64,

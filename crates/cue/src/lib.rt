@@ -1,5 +1,7 @@
 // The cue line of document 01: one frame's stereo parameters in hexadecimal. Reading a line gives its header, the places of its rows and its bytes, or a
 // refusal; the rows of deltas after the header are left to ps_data.
+#![tactic(auto)]
+
 mod digits;
 mod fields;
 
@@ -11,21 +13,21 @@ ghost use Rattle.cue.specs.Line.{answer_of, no_header, cue_of, refused, read_byt
 use answer::Answer;
 
 // A kind of parameter: whether the frame brings it, and its mode.
-#[derive(Drop)]
+#[derive(Clone, Copy)]
 pub struct Parameter {
     pub present: bool,
     pub mode: u8,
 }
 
 // What stays in force when a later line is empty.
-#[derive(Drop)]
+#[derive(Clone, Copy)]
 pub struct Config {
     pub iid: Parameter,
     pub icc: Parameter,
 }
 
 // What a line says before its rows. An empty line is not cued: it brings no configuration and no envelopes.
-#[derive(Drop)]
+#[derive(Clone, Copy)]
 pub struct Header {
     pub cued: bool,
     pub config: Config,
@@ -35,7 +37,7 @@ pub struct Header {
 }
 
 // The rows of a kind in a line: whether they are there, how many deltas each has, and the byte at which the first row begins.
-#[derive(Drop)]
+#[derive(Clone, Copy)]
 pub struct Block {
     pub present: bool,
     pub count: usize,
@@ -43,7 +45,7 @@ pub struct Block {
 }
 
 // The rows of each kind, and where the line ends.
-#[derive(Drop)]
+#[derive(Clone, Copy)]
 pub struct Places {
     pub iid: Block,
     pub icc: Block,
@@ -52,14 +54,14 @@ pub struct Places {
     pub end: usize,
 }
 
-#[derive(Drop)]
+#[derive(Clone, Copy)]
 pub enum Line {
     Read(Header),
     Refused(Answer),
 }
 
 // A line, where its rows stand, and its bytes with zeros after them.
-#[derive(Drop)]
+#[derive(Clone, Copy)]
 pub struct Cue {
     pub line: Line,
     pub places: Places,
@@ -67,7 +69,7 @@ pub struct Cue {
 }
 
 // The place of the first byte that is out of range.
-#[derive(Drop)]
+#[derive(Clone, Copy)]
 enum Found {
     At(usize),
     Nothing,

@@ -1,5 +1,7 @@
 // Lists the resolved indices of the cue lines on standard input: for each line its number, the answer, and the indices of each kind and envelope.
 // It holds one line at a time, so that its memory does not grow with the input.
+#![tactic(auto)]
+
 mod text;
 
 use cue::Line;
@@ -8,7 +10,7 @@ use ps_data::{PsIndices, PsLines};
 
 // What is carried from line to line: what the lines so far have left, the number of the last line, how many characters the line that has begun has had,
 // and whether all was written so far.
-#[derive(Drop)]
+#[derive(Clone, Copy)]
 struct Listing {
     lines: PsLines,
     number: u64,

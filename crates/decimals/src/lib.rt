@@ -1,11 +1,13 @@
 // The decimals that the standard prints: the prototypes of the hybrid filters, the all-pass coefficients and the detectors' factors. Each is the
 // float nearest to the decimal.
+#![tactic(auto)]
+
 ghost use Rattle.std.specs.Prelude.{◌≡◌};
 ghost use Rattle.decimals.specs.Prototypes.{prototype_of};
 ghost use Rattle.decimals.specs.Decorrelation.{all_pass, decay_slope, detector_factors};
 
 // A prototype filter of 13 taps, by the part of a QMF band that one of its filters takes.
-#[derive(Drop)]
+#[derive(Clone, Copy)]
 pub enum Prototype {
     EighthsOfBand0,
     Halves,
@@ -45,7 +47,7 @@ pub fn decay_slope() -> f64
 }
 
 // The factors of the transient detectors (§8.6.4.5.3): the peak's decay α (Table 8.43), the smoothing a_smooth and the impact γ.
-#[derive(Drop)]
+#[derive(Clone, Copy)]
 pub struct DetectorFactors {
     pub decay: f64,
     pub smoothing: f64,

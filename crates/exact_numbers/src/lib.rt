@@ -1,4 +1,6 @@
 // Small whole numbers kept as floats, exactly, in memory that anyone may have written: any float reads as a number in range.
+#![tactic(auto)]
+
 ghost use Rattle.std.specs.Prelude.{◌≡◌, ◌<◌};
 ghost use Rattle.exact_numbers.specs.Numbers.{kept_number, number_in, kept_flag, flag_in, shift_of, index_of, kept_pair, first_in, second_in};
 

@@ -1,4 +1,6 @@
 // Constants as floats: a table holds whole numbers of 2^-52.
+#![tactic(auto)]
+
 ghost use Rattle.std.specs.Prelude.{◌≡◌, ◌+◌, pos, slice_index_or};
 ghost use Rattle.fixed.specs.Real.{real, pair_at};
 

@@ -1,8 +1,10 @@
 // The two layouts of §8.6.4: 20 stereo bands over 71 hybrid channels, 34 over 91. A layout's numbers belong to its type.
+#![tactic(auto)]
+
 ghost use Rattle.std.specs.Prelude.{◌≡◌, ◌≤◌};
 ghost use Rattle.layout.specs.Numbers.{bands_of, channels_of, split_of, unsplit_from_of, all_pass_of, short_delay_of, groups_of, kind_of, decay_cutoff_of, edge_shift_of, reset_from_of};
 
-#[derive(Drop)]
+#[derive(Clone, Copy)]
 pub struct Twenty;
 
 impl Twenty {
@@ -25,7 +27,7 @@ impl Twenty {
     pub const EDGE_SHIFT: usize = 7;
 }
 
-#[derive(Drop)]
+#[derive(Clone, Copy)]
 pub struct ThirtyFour;
 
 impl ThirtyFour {
@@ -48,14 +50,14 @@ impl ThirtyFour {
     pub const EDGE_SHIFT: usize = 27;
 }
 
-#[derive(Drop)]
+#[derive(Clone, Copy)]
 pub enum Layout {
     Bands20,
     Bands34,
 }
 
 // How a channel is de-correlated: by an all-pass chain, by a delay of 14 slots, or by one of one slot.
-#[derive(Drop)]
+#[derive(Clone, Copy)]
 pub enum Kind {
     AllPass,
     Long,

@@ -1,4 +1,6 @@
 // The C API: a decoder whose state lies in memory that the caller lends. lefasumu.h says the same in C's words.
+#![tactic(auto)]
+
 ghost use Rattle.std.specs.Prelude.{◌≡◌};
 ghost use Rattle.answer.specs.Number.{number_of};
 ghost use Rattle.ps_decoder.specs.Frame.{call_of};

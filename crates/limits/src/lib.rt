@@ -1,5 +1,7 @@
 // How large a frame and its line can be: the numbers that document 01 fixes and those that follow from them, once for the code here and once for the
 // definitions in specs/Limits, held together by `all`. Beside them the small functions that cut a number to a limit.
+#![tactic(auto)]
+
 ghost use Rattle.std.specs.Prelude.{◌≡◌, [], ◌∷◌, ◌-◌, min};
 ghost use Rattle.limits.specs.Limits as limits;
 

@@ -1,5 +1,7 @@
 // Compares the band map with the Rust's. The input has 77 bytes for each row: its length, the target, 40 places for its indices, the answer, and the 34
 // indices that the Rust gives. It says how many rows are mapped so, or which is the first that is not.
+#![tactic(auto)]
+
 ghost use Rattle.std.specs.Prelude.{◌≡◌, ◌*◌, ◌≤◌, length};
 
 use libc::{STDIN_FILENO, STDOUT_FILENO};
@@ -8,7 +10,7 @@ use libc::{STDIN_FILENO, STDOUT_FILENO};
 const PIECE: usize = 65527;
 
 // What a piece of the input says: how many of its records hold, whether that is all of it, and whether the replay ends with it.
-#[derive(Drop)]
+#[derive(Clone, Copy)]
 struct Piece {
     held: u64,
     whole: bool,
@@ -16,7 +18,7 @@ struct Piece {
 }
 
 // How many records hold, up to the first that does not; whole where that is the input's end.
-#[derive(Drop)]
+#[derive(Clone, Copy)]
 struct Replayed {
     count: u64,
     whole: bool,

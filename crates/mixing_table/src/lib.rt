@@ -1,4 +1,6 @@
 // The mixing coefficients (§8.6.4.6.2), as whole numbers of 2^-52. Made once a frame and lent to whoever looks things up in it.
+#![tactic(auto)]
+
 mod values;
 
 ghost use Rattle.std.specs.Prelude.{◌≡◌, ◌<◌, pos, get_or};
@@ -6,7 +8,7 @@ ghost use Rattle.fixed.specs.Real.{real};
 ghost use Rattle.mixing_table.specs.Values.{mixing};
 ghost use Rattle.mixing_table.specs.Coefficients.{procedure_place, level_place, set_place, coefficients_at};
 
-#[derive(Drop)]
+#[derive(Clone, Copy)]
 pub struct Coefficients {
     pub h11: f64,
     pub h12: f64,

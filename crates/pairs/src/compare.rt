@@ -2,7 +2,7 @@
 use super::marks;
 
 // One side: how many numbers of the QMF bands that are held are alike, the place of the first that is not, and the QMF bands that have a number which differs.
-#[derive(Drop)]
+#[derive(Clone, Copy)]
 pub struct Compared {
     pub numbers: u64,
     pub first: usize,

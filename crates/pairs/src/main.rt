@@ -1,5 +1,7 @@
 // Plays pairs of runs through the decoder. The two runs of a pair agree on one stereo band, or on all stereo bands of one split QMF band, and differ in
 // all that docs/ISOLATION.md says may differ. It says how many numbers came out alike, or the first that did not.
+#![tactic(auto)]
+
 mod chance;
 mod compare;
 mod line;
@@ -13,7 +15,7 @@ use libc::STDOUT_FILENO;
 use runs::Pair;
 
 // What the pairs of a layout add up to.
-#[derive(Drop)]
+#[derive(Clone, Copy)]
 struct Total {
     numbers: u64,
     free: u64,

@@ -2,7 +2,7 @@
 use layout::Layout;
 
 // The QMF bands that the two runs agree on, and those that have to come out alike.
-#[derive(Drop)]
+#[derive(Clone, Copy)]
 pub struct Columns {
     pub agreed: u64,
     pub held: u64,

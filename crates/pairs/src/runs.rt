@@ -14,7 +14,7 @@ pub const BOTH: usize = 49152;
 
 // How many frames of both runs were accepted; of the QMF bands that are held, how many numbers came out alike, and the place of the first that did not, in
 // all left frames and then all right ones; and of both sides, how many QMF bands are left free, and how many of these came out different.
-#[derive(Drop)]
+#[derive(Clone, Copy)]
 pub struct Pair {
     pub accepted: u64,
     pub numbers: u64,

@@ -1,4 +1,6 @@
 // The smoothed phase of three indices (§8.6.4.6.3.2), as whole numbers of 2^-52. Made once a frame and lent to whoever looks things up in it.
+#![tactic(auto)]
+
 mod values;
 
 ghost use Rattle.std.specs.Prelude.{◌≡◌, ◌<◌};

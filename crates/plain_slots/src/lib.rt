@@ -1,5 +1,7 @@
 // The sound of a slot done plainly, channel by channel, for what is compared with the decoder: hybrid samples in a row of re and im, mixed with their
 // de-correlation to left and right, and a side's row added together to the slot's QMF bands.
+#![tactic(auto)]
+
 ghost use Rattle.std.specs.Prelude.{◌≡◌, Bool, ◌+◌, ◌*◌, ◌<◌, ◌≤◌, length};
 ghost use Rattle.complex.specs.Operations.{product, sum};
 ghost use Rattle.layout.specs.Numbers.{channels_of, split_of};

@@ -10,7 +10,7 @@ pub const LEFT: usize = 5;
 
 pub const RIGHT: usize = 6;
 
-#[derive(Drop)]
+#[derive(Clone, Copy)]
 pub struct Streams {
     pub lines: i32,
     pub samples: i32,
@@ -19,7 +19,7 @@ pub struct Streams {
 }
 
 // What is carried from frame to frame, beside the memory that the decoder's state lies in.
-#[derive(Drop)]
+#[derive(Clone, Copy)]
 pub struct Run {
     pub streams: Streams,
     pub asked: usize,

@@ -1,5 +1,7 @@
 // Plays a programme: a frame for each line of a file of cue lines, from the rows of a file of samples to the rows of two files, left and right.
 // It holds one line and one frame at a time, so that its memory does not grow with the programme.
+#![tactic(auto)]
+
 mod frames;
 mod report;
 

@@ -2,7 +2,7 @@
 use libc::{STDERR_FILENO, STDOUT_FILENO};
 
 // Frames so far: how many of them held what was in force, how many were quiet, and how many were refused.
-#[derive(Drop)]
+#[derive(Clone, Copy)]
 pub struct Tally {
     pub frames: u64,
     pub held: u64,

@@ -4,7 +4,7 @@ ghost use Rattle.std.specs.Prelude.{◌≤◌};
 // Slots act alike from 32 on and the spectrum's edge from 64 on, so a number above this one is read as this one.
 const MOST: usize = 1000000;
 
-#[derive(Drop)]
+#[derive(Clone, Copy)]
 pub enum Number {
     Given(usize),
     Missing,

@@ -9,7 +9,7 @@ pub const LINES: usize = 3;
 pub const SAMPLES: usize = 4;
 
 // How many bytes a read brought: none at the end of the file, and none where it failed.
-#[derive(Drop)]
+#[derive(Clone, Copy)]
 pub struct Got {
     pub count: usize,
     pub failed: bool,

@@ -5,7 +5,7 @@ ghost use Rattle.programme.specs.Rows.{carried_rows};
 use crate::files;
 
 // How many rows came from the file.
-#[derive(Drop)]
+#[derive(Clone, Copy)]
 pub struct Fetched {
     pub rows: usize,
     pub failed: bool,

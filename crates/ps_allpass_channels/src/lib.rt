@@ -1,5 +1,7 @@
 // The all-pass channels of a frame (source documents 000 to 002), slot by slot: from the samples of the split bands and the input's row through their
 // chains into the rows of left and right.
+#![tactic(auto)]
+
 mod desks;
 mod rows;
 
@@ -20,7 +22,7 @@ use layout::Layout;
 use ps_stereo_slots::Timing;
 
 // What is said of a slot: that it is slot n of the frame, that `turn` slots came before it, and how far it lies on its way, or that it is held.
-#[derive(Drop)]
+#[derive(Clone, Copy)]
 struct Moment {
     layout: Layout,
     n: usize,

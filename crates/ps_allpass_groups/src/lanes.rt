@@ -6,7 +6,7 @@ ghost use Rattle.complex.specs.Operations.{product, sum, difference, scaled};
 ghost use Rattle.planar.specs.Cells.{cell};
 ghost use Rattle.ps_allpass_groups.specs.Lanes.{number_of, lane_of, four, lanes, flat};
 
-#[derive(Drop)]
+#[derive(Clone, Copy)]
 pub struct Four {
     pub a: f64,
     pub b: f64,
@@ -15,7 +15,7 @@ pub struct Four {
 }
 
 // Real parts and imaginary parts.
-#[derive(Drop)]
+#[derive(Clone, Copy)]
 pub struct Pair {
     pub re: Four,
     pub im: Four,

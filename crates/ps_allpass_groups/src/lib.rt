@@ -1,5 +1,7 @@
 // Groups of four all-pass channels, one slot at a time (source documents 000 and 001, §8.6.4.5.2 and §8.6.4.6): each goes through its chain, over rings
 // that are used where they lie, is ducked and mixed into both sides.
+#![tactic(auto)]
+
 mod chain;
 mod lanes;
 mod mixing;

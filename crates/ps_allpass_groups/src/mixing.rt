@@ -12,7 +12,7 @@ use super::lanes;
 use super::lanes::{Four, Pair};
 
 // Which of four channels are marked with *: none where `any` is false. Few groups have any.
-#[derive(Drop)]
+#[derive(Clone, Copy)]
 pub struct Marks {
     pub any: bool,
     pub a: bool,

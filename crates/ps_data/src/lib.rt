@@ -1,5 +1,7 @@
 // The indices of a frame (source document 005): a cue line and what the lines before it have left give the absolute indices of each kind and envelope.
 // A refused line changes nothing.
+#![tactic(auto)]
+
 mod kinds;
 
 ghost use Rattle.std.specs.Prelude.{◌≡◌};
@@ -11,7 +13,7 @@ use layout::Layout;
 use ps_rows::{Row, Rows};
 
 // The row of each kind's last envelope.
-#[derive(Drop)]
+#[derive(Clone, Copy)]
 pub struct PsIndexState {
     pub iid: Row,
     pub icc: Row,
@@ -20,14 +22,14 @@ pub struct PsIndexState {
 }
 
 // What the lines so far have left: whether a configuration has come, and the rows that the next line's time rows start from.
-#[derive(Drop)]
+#[derive(Clone, Copy)]
 pub struct PsLines {
     pub configured: bool,
     pub rows: PsIndexState,
 }
 
 // A frame's rows.
-#[derive(Drop)]
+#[derive(Clone, Copy)]
 pub struct PsIndices {
     pub iid: Rows,
     pub icc: Rows,
@@ -36,7 +38,7 @@ pub struct PsIndices {
 }
 
 // What a line says, what it and those before it have left, its indices, and its own borders where they are variable.
-#[derive(Drop)]
+#[derive(Clone, Copy)]
 pub struct Resolved {
     pub line: Line,
     pub lines: PsLines,

@@ -1,4 +1,6 @@
 // The frame driver (source document 004, Annex 8.A): one call for each frame.
+#![tactic(auto)]
+
 mod sound;
 
 ghost use Rattle.std.specs.Prelude.{◌≡◌, ◌+◌, ◌*◌, ◌≤◌, length};
@@ -16,14 +18,14 @@ use ps_data::Resolved;
 use ps_state::{PsCarried, PsDecoder};
 
 // What a call answers, and the state after it.
-#[derive(Drop)]
+#[derive(Clone, Copy)]
 pub struct Played {
     pub answer: Answer,
     pub state: PsDecoder,
 }
 
 // The same of a state whose sound is lent.
-#[derive(Drop)]
+#[derive(Clone, Copy)]
 pub struct Answered {
     pub answer: Answer,
     pub carried: PsCarried,

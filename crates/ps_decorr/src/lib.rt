@@ -1,4 +1,6 @@
 // The carried state of de-correlation (source document 001): flat arrays of floats with fixed places for each channel and band.
+#![tactic(auto)]
+
 ghost use Rattle.std.specs.Prelude.{◌≡◌, ◌+◌, ◌*◌, ◌/◌, ◌%◌, ◌≤◌, length};
 ghost use Rattle.ps_decorr_allpass.specs.Memory.{owner_of, silenced_from};
 ghost use Rattle.ps_decorr.specs.State.{fresh_decorr, plain_owner, delays_reset, plain_reset};
@@ -7,7 +9,7 @@ use layout::{Kind, Layout};
 
 // How many slots have come, modulo 420, of which the length of every ring is a divisor; the rings of the all-pass channels; the plain delays, a ring of 14
 // rows of 24 numbers, then one of a row of 58; and the transient detectors.
-#[derive(Drop)]
+#[derive(Clone, Copy)]
 pub struct PsDecorr {
     pub turn: usize,
     pub delays: [f64; 1456],

@@ -1,5 +1,7 @@
 // The all-pass chain of a hybrid channel (source document 001, §8.6.4.5.2): a delay of two slots, a rotation, and three links whose delays are 3, 4
 // and 5 slots. Here are its constants, and in specs/Memory how the carried delays hold it.
+#![tactic(auto)]
+
 ghost use Rattle.std.specs.Prelude.{◌≡◌, ◌+◌, ◌*◌, ◌%◌, ◌<◌, if◌then◌else◌};
 ghost use Rattle.std.specs.Float.Ieee.{lt};
 ghost use Rattle.fixed.specs.Real.{pair_at};

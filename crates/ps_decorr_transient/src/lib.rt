@@ -1,5 +1,7 @@
 // The transient detectors of a frame and the ducking factors that they give (source document 001, §8.6.4.5.3). A band's row of gains holds its powers
 // until its detector has gone over them.
+#![tactic(auto)]
+
 ghost use Rattle.std.specs.Prelude.{◌≡◌, cond, ◌+◌, ◌*◌, ◌<◌, ◌≤◌, min, length};
 ghost use Rattle.std.specs.Float.Ieee.{lt};
 ghost use Rattle.layout.specs.Numbers.{bands_of, unsplit_from_of};
@@ -93,7 +95,7 @@ fn add_powers(layout: Layout, samples: &[f64], input: &[f64], slots: usize, gain
 }
 
 // A band's detector.
-#[derive(Drop)]
+#[derive(Clone, Copy)]
 pub struct Follower {
     pub peak: f64,
     pub smooth: f64,

@@ -1,5 +1,7 @@
 // The channels of a frame that are plain delays (source documents 000 to 002): each is a QMF band of the input, mixed with what came 14 slots before, or
 // one, straight into its band of left and right. Bands of one stereo band go by together.
+#![tactic(auto)]
+
 mod memory;
 mod rows;
 mod span;

@@ -8,7 +8,7 @@ ghost use Rattle.standard.specs.Mixing.{left_of, right_of};
 ghost use Rattle.ps_delay_channels.specs.Spans.{Before, Frame, Banded, mixed_at};
 
 // A delay of some slots, of QMF bands from `first` on: its memory is a ring of rows, of which the one at `position` is the oldest.
-#[derive(Drop)]
+#[derive(Clone, Copy)]
 pub struct Delay {
     pub slots: usize,
     pub first: usize,
@@ -17,7 +17,7 @@ pub struct Delay {
 }
 
 // QMF bands from `from` on that share a stereo band and a delay.
-#[derive(Drop)]
+#[derive(Clone, Copy)]
 pub struct Span {
     pub band: usize,
     pub from: usize,

@@ -14,7 +14,7 @@ use layout::{Kind, Layout};
 use ps_stereo_slots::Timing;
 
 // What the spans of a delay have in common: the layout, when coefficients change, and the delay.
-#[derive(Drop)]
+#[derive(Clone, Copy)]
 pub struct Common {
     pub layout: Layout,
     pub timing: Timing,

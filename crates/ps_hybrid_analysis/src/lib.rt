@@ -1,4 +1,6 @@
 // Hybrid analysis of a frame (source document 002, §8.6.4.3): the lowest QMF bands split by filters of 13 taps. The others are channels as they are.
+#![tactic(auto)]
+
 mod band;
 mod filter;
 mod plan;

@@ -1,4 +1,6 @@
 // What a frame's buffers must be before anything is done (document 01): their lengths, then the samples.
+#![tactic(auto)]
+
 ghost use Rattle.std.specs.Prelude.{◌≡◌, ◌≤◌};
 ghost use Rattle.borders.specs.Borders.{slots_of};
 ghost use Rattle.lists.specs.All.{all};

@@ -1,5 +1,7 @@
 // Band maps (source document 003, §8.6.4.6.1): parameters and coefficients brought from one number of stereo bands to another, and the stereo band
 // of each hybrid channel.
+#![tactic(auto)]
+
 mod channels;
 mod sources;
 
@@ -14,7 +16,7 @@ use answer::Answer;
 use layout::Layout;
 
 // Where a band's parameter comes from.
-#[derive(Drop)]
+#[derive(Clone, Copy)]
 pub enum MapSrc {
     // A copy of one band.
     Single(usize),
@@ -26,14 +28,14 @@ pub enum MapSrc {
     W12(usize, usize),
 }
 
-#[derive(Drop)]
+#[derive(Clone, Copy)]
 pub enum Mapping {
     Bands(usize),
     Refused(Answer),
 }
 
 // A mapped row, with zeros after it.
-#[derive(Drop)]
+#[derive(Clone, Copy)]
 pub struct Mapped {
     pub mapping: Mapping,
     pub row: [i8; 34],

@@ -1,4 +1,6 @@
 // A decoder's whole state in lent memory, a run of floats, between calls. Any memory of the right length is a state.
+#![tactic(auto)]
+
 mod lines;
 
 ghost use Rattle.std.specs.Prelude.{◌≡◌, length};

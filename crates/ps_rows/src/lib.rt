@@ -1,10 +1,12 @@
 // The indices of one kind of parameter (source document 005, §8.5.2): deltas, over frequency or over time, to absolute indices.
+#![tactic(auto)]
+
 mod steps;
 
 ghost use Rattle.std.specs.Prelude.{◌≡◌, [], ◌+◌, ◌≤◌, pos, take, drop, get_or};
 ghost use Rattle.ps_rows.specs.Rows.{frequency_row, time_row, deltas_of, row_of, padded_row, padded_rows, start_of, resolve_kind};
 
-#[derive(Drop)]
+#[derive(Clone, Copy)]
 pub enum Kind {
     // IID by the default quantiser, and by the fine one.
     Coarse,
@@ -16,21 +18,21 @@ pub enum Kind {
 }
 
 // A row of indices: the first `used` of 34 places, zeros after them.
-#[derive(Drop)]
+#[derive(Clone, Copy)]
 pub struct Row {
     pub at: [i8; 34],
     pub used: u16,
 }
 
 // The rows of a frame, one for each envelope: the first `used` of its places.
-#[derive(Drop)]
+#[derive(Clone, Copy)]
 pub struct Rows {
     pub row: [Row; limits::ENVELOPES],
     pub used: u16,
 }
 
 // A frame's rows, and the row that the next frame's time rows start from.
-#[derive(Drop)]
+#[derive(Clone, Copy)]
 pub struct ResolvedKind {
     pub rows: Rows,
     pub kept: Row,

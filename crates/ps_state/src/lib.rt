@@ -1,4 +1,6 @@
 // The carried state of a decoder (source document 004), fresh and made ready for a frame.
+#![tactic(auto)]
+
 ghost use Rattle.std.specs.Prelude.{◌≡◌, ◌++◌, length, replicate};
 ghost use Rattle.standard.specs.Core.{same_layout};
 ghost use Rattle.standard.specs.Numbers.{zero};
@@ -10,7 +12,7 @@ use ps_data::PsLines;
 use ps_decorr::PsDecorr;
 use ps_stereo::PsStereo;
 
-#[derive(Drop)]
+#[derive(Clone, Copy)]
 pub struct PsDecoder {
     // The slots asked for.
     pub asked: usize,
@@ -41,7 +43,7 @@ pub fn fresh(asked: usize) -> PsDecoder
 
 // ---- a state apart: what is small in it goes by value, its numbers of sound are lent in one list, so that no call copies them
 
-#[derive(Drop)]
+#[derive(Clone, Copy)]
 pub struct PsCarried {
     pub asked: usize,
     pub layout: Layout,

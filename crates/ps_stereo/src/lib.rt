@@ -1,4 +1,6 @@
 // The carried state of mixing (source document 000): the coefficients at the last border, and the history of phase indices.
+#![tactic(auto)]
+
 ghost use Rattle.std.specs.Prelude.{◌≡◌, ◌<◌, length};
 ghost use Rattle.ps_stereo.specs.State.{fresh_stereo, part_of, remapped_to, remapped_in};
 ghost use Rattle.ps_stereo.specs.Parts.{Scattered};
@@ -6,7 +8,7 @@ ghost use Rattle.ps_stereo.specs.Parts.{Scattered};
 use layout::Layout;
 
 // For each band h11, h12, h21, h22 with their parts side by side; and for each band the oldest and the previous index of IPD, then those of OPD.
-#[derive(Drop)]
+#[derive(Clone, Copy)]
 pub struct PsStereo {
     pub matrices: [f64; 272],
     pub phases: [i8; 136],

@@ -1,4 +1,6 @@
 // The coefficients of every band at every border of a frame (source document 000, §8.6.4.6.2 and §8.6.4.6.3).
+#![tactic(auto)]
+
 ghost use Rattle.std.specs.Prelude.{◌≡◌, ◌*◌, ◌≤◌, length};
 ghost use Rattle.calls.specs.Call.{modes_of};
 ghost use Rattle.layout.specs.Numbers.{bands_of};

@@ -1,4 +1,6 @@
 // The mapped indices of an envelope (source document 000, §8.6.4.6.1).
+#![tactic(auto)]
+
 ghost use Rattle.std.specs.Prelude.{◌≡◌, min};
 ghost use Rattle.calls.specs.Cues.{envelope_row, mapped_row, mapped_phases};
 ghost use Rattle.ps_stereo_cues.specs.Cues.{cues_at};

@@ -1,4 +1,6 @@
 // The mixing coefficients of every band at an envelope's border (source document 000, §8.6.4.6.2 and §8.6.4.6.3), with the history of phase indices.
+#![tactic(auto)]
+
 ghost use Rattle.std.specs.Prelude.{◌≡◌, ◌*◌, ◌<◌, ◌≤◌, length};
 ghost use Rattle.complex.specs.Operations.{product, conjugate};
 ghost use Rattle.limits.specs.Limits as limits;
@@ -14,7 +16,7 @@ use layout::Layout;
 use standard::{Cues, Matrix, Modes};
 
 // The mapped indices of one band.
-#[derive(Drop)]
+#[derive(Clone, Copy)]
 struct Indices {
     iid: i8,
     icc: i8,

@@ -1,4 +1,6 @@
 // A band's mixing coefficients in each slot of a frame (source document 000, §8.6.4.6.4): interpolated between borders, then held.
+#![tactic(auto)]
+
 ghost use Rattle.std.specs.Prelude.{cond, ◌≡◌, ◌+◌, ◌-◌, ◌*◌, ◌/◌, ◌%◌, ◌≤◌, ◌<◌, min, max, leb, ltb, length, get_or};
 ghost use Rattle.std.specs.Float.{nan};
 ghost use Rattle.limits.specs.Limits as limits;
@@ -15,7 +17,7 @@ use complex::Complex;
 use standard::Matrix;
 
 // When a frame is: the borders of its envelopes, how many envelopes there are, its slots, and how many slots came before it.
-#[derive(Drop)]
+#[derive(Clone, Copy)]
 pub struct Timing {
     pub borders: [u8; limits::ENVELOPES],
     pub count: usize,

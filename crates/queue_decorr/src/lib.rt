@@ -1,6 +1,8 @@
 // A second de-correlator for the bench (source document 001, §8.6.4.5): every delay is a plain queue, newest first, whose entries all move one place each
 // slot, as they do on paper. It gives the de-correlated samples of every channel, 71 or 91, after ducking; the detectors have no delay, and are the
 // decoder's own.
+#![tactic(auto)]
+
 mod channels;
 mod queue;
 
@@ -12,7 +14,7 @@ ghost use Rattle.queue_decorr.specs.Slots.{Lent, Slotted};
 use layout::Layout;
 
 // What is carried from frame to frame: the layout, whether the last frame had a line, the queues channel after channel, and the transient detectors.
-#[derive(Drop)]
+#[derive(Clone, Copy)]
 pub struct QueueDecorr {
     pub layout: Layout,
     pub cued: bool,

@@ -1,6 +1,8 @@
 // Holds the decoder to the Rust, over the stream of runs on standard input (oracle/README.md, "Streams"): every answer, every bit of both outputs of an
 // accepted frame, and that any other call leaves both outputs as they were. It says how many calls are so, or which is the first that is not. The decoder is
 // the one that C links: its state lies in lent memory.
+#![tactic(auto)]
+
 mod sides;
 mod text;
 
@@ -9,7 +11,7 @@ use run_stream::input;
 use text::Place;
 
 // Runs begun, calls of the last of them that agree, and all calls by what they answered.
-#[derive(Drop)]
+#[derive(Clone, Copy)]
 struct Counts {
     runs: u64,
     frames: u64,
@@ -19,7 +21,7 @@ struct Counts {
 }
 
 // What is carried from record to record.
-#[derive(Drop)]
+#[derive(Clone, Copy)]
 struct Replay {
     counts: Counts,
     going: bool,

@@ -14,7 +14,7 @@ fn say_bits(n: u64) {
 }
 
 // A call of the stream: runs, and the frames of a run, count from 0.
-#[derive(Drop)]
+#[derive(Clone, Copy)]
 pub struct Place {
     pub run: u64,
     pub frame: u64,

@@ -1,4 +1,6 @@
 // The unit roots of order 8, 16 and 24, by which the hybrid filters are modulated (§8.6.4.3), as whole numbers of 2^-52.
+#![tactic(auto)]
+
 mod values;
 
 ghost use Rattle.std.specs.Prelude.{◌≡◌};

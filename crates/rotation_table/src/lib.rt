@@ -1,4 +1,6 @@
 // The rotations of the all-pass channels (§8.6.4.5.2), as whole numbers of 2^-52: of 30 channels with 20 stereo bands, of 50 with 34.
+#![tactic(auto)]
+
 mod values;
 
 ghost use Rattle.std.specs.Prelude.{◌≡◌};

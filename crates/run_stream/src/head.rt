@@ -12,7 +12,7 @@ pub const INPUT: usize = 5632;
 
 pub const SIDE: usize = 4352;
 
-#[derive(Drop)]
+#[derive(Clone, Copy)]
 pub struct Head {
     // 0 the end, 1 a run, 2 a call.
     pub kind: u8,

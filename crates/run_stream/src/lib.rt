@@ -1,3 +1,5 @@
 // The stream of runs on standard input (oracle/README.md, "Streams"), record by record: what programs that play it share.
+#![tactic(auto)]
+
 pub mod head;
 pub mod input;

@@ -10,7 +10,7 @@ use super::{carried, compare, play, say, stream};
 use layout::Layout;
 
 // What is counted, and whether the stream goes on. The lent memory has what is carried from frame to frame.
-#[derive(Drop)]
+#[derive(Clone, Copy)]
 struct Replay {
     counts: [u64; 12],
     frames: u64,
@@ -19,7 +19,7 @@ struct Replay {
 }
 
 // A frame's layout, how many stages hold, and what is said of it.
-#[derive(Drop)]
+#[derive(Clone, Copy)]
 struct Checked {
     layout: Layout,
     found: Compared,

@@ -10,7 +10,7 @@ use ps_state::PsCarried;
 use ps_stereo_slots::Timing;
 
 // What a line makes of a frame.
-#[derive(Drop)]
+#[derive(Clone, Copy)]
 pub struct Begun {
     pub read: bool,
     pub asked: usize,

@@ -6,7 +6,7 @@ use super::{carried, play};
 use libc::STDOUT_FILENO;
 
 // The last answer, and what was compared so far. The lent memories of the decoder and of the queues have the rest.
-#[derive(Drop)]
+#[derive(Clone, Copy)]
 pub struct Both {
     pub answer: u32,
     // Accepted frames, numbers that were compared, and those that differ.

@@ -5,7 +5,7 @@ use super::{play, stream};
 use layout::Layout;
 
 // The first number of a slot that differs: its place, the Rust's bits and ours.
-#[derive(Drop)]
+#[derive(Clone, Copy)]
 pub struct Difference {
     pub slot: usize,
     pub place: usize,
@@ -13,7 +13,7 @@ pub struct Difference {
     pub found: u64,
 }
 
-#[derive(Drop)]
+#[derive(Clone, Copy)]
 pub enum Verdict {
     Same,
     // The stream ends before the frame does.
@@ -26,7 +26,7 @@ pub enum Verdict {
 }
 
 // How many stages hold, in their order, and what is said of the next one.
-#[derive(Drop)]
+#[derive(Clone, Copy)]
 pub struct Compared {
     pub held: usize,
     pub verdict: Verdict,

@@ -4,7 +4,7 @@ ghost use Rattle.std.specs.Prelude.{◌≡◌, ◌≤◌, length};
 use libc::STDOUT_FILENO;
 
 // A number from 1 to below 10, times a power of ten: its exponent is `up`, or else `down` below 0.
-#[derive(Drop)]
+#[derive(Clone, Copy)]
 struct Scaled {
     number: f64,
     up: u64,

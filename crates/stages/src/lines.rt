@@ -12,7 +12,7 @@ use programme::{arguments, files, rows};
 const CHANNEL: usize = 5;
 
 // What is carried from line to line, beside the lent memory.
-#[derive(Drop)]
+#[derive(Clone, Copy)]
 struct Run {
     lines: i32,
     samples: i32,

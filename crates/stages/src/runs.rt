@@ -9,7 +9,7 @@ use run_stream::head::Head;
 use run_stream::{head, input};
 
 // What is carried from record to record, and whether the stream goes on, has ended, or breaks off.
-#[derive(Drop)]
+#[derive(Clone, Copy)]
 struct Run {
     both: Both,
     going: bool,

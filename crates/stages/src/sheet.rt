@@ -7,7 +7,7 @@ use libc::STDOUT_FILENO;
 use ps_decorr_transient::Follower;
 use queue_decorr::QueueDecorr;
 
-#[derive(Drop)]
+#[derive(Clone, Copy)]
 pub enum Wanted {
     Nothing,
     Channel(usize),

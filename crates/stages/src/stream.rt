@@ -4,7 +4,7 @@ ghost use Rattle.std.specs.Prelude.{◌≡◌, ◌*◌, ◌≤◌, length};
 use libc::STDIN_FILENO;
 
 // What stands before a frame.
-#[derive(Drop)]
+#[derive(Clone, Copy)]
 pub struct Head {
     // 1 before a frame, 0 at the end.
     pub kind: u8,

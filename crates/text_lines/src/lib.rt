@@ -1,11 +1,13 @@
 // Lines out of pieces of a text, however the pieces cut them. A line that has begun is the count of all its characters, beside lent room that holds the
 // first of them: so memory does not grow with the text, and of a line that is longer than the room the count is known still.
+#![tactic(auto)]
+
 ghost use Rattle.std.specs.Prelude.{◌≡◌, take};
 ghost use Rattle.lists.specs.First.{before};
 ghost use Rattle.text_lines.specs.Lines.{of_line, counted, laid, stepped, step_of};
 
 // Where a step has come to: the place of the piece to go on from, how many characters the line has had, and whether it has ended.
-#[derive(Drop)]
+#[derive(Clone, Copy)]
 pub struct Reached {
     pub next: usize,
     pub count: u64,

@@ -1,1 +1,2 @@
 // No code: document 01's table of samples, with a single claim over all of its rows.
+#![tactic(auto)]

@@ -1,0 +1,32 @@
+use borrow.Author.Rules.{rules}
+use native.Mathlib.Omega.{arith}
+use native.Mathlib.Nat.{sub-zero}
+use mathlib.Core.Path.{◌≡◌, sym, ◌∙◌}
+use mathlib.Core.List.{List, [], map}
+use Prim.Native.Nat.{ℕ, ◌≤◌, ◌-◌, ◌*◌, min}
+use lib.IntN.{ℤ}
+use lib.ListN.{take, drop, replicate}
+use Rattle.limits.specs.Limits as limits
+use Rattle.lists.proofs.Fills.{Filled, filled_none, filled_more}
+use Rattle.ps_rows.specs.declared.Kind.{Kind}
+use Rattle.ps_rows.specs.declared.Row.{Row}
+use Rattle.ps_rows.specs.declared.Rows.{Rows}
+use Rattle.ps_rows.specs.declared.ResolvedKind.{ResolvedKind}
+use Rattle.ps_rows.specs.Rows.{rows_of, padded_row, padded_rows, start_of, last_of, resolved_from, resolve_kind}
+use Rattle.ps_rows.proofs.Places.{held_rows}
+use Rattle.ps_rows.proofs.Ranges.{rows_length}
+use Rattle.ps_rows.proofs.Turns.{rows_turn}
+use Rattle.ps_rows.proofs.resolve_kind.Given as goal
+
+-- `start` is what the first envelope starts from
+pub record Inv (kind : Kind) (count limit : ℕ) (bytes : List ℕ) (start : List ℤ) (kept : Row) (row : List Row) (old : List ℤ) (last : Row) (place e : ℕ) : Type 0 where
+  pub low : e ≤ limit
+  pub near : place ≤ e * 35
+  pub filled : Filled (map padded_row (rows_of kind count (take count old) (drop place bytes) (limit - e))) (map padded_row (rows_of kind count (take count start) bytes limit)) (replicate limits.envelopes (padded_row [])) row e
+  pub lasts : last_of last (rows_of kind count (take count old) (drop place bytes) (limit - e)) ≡ last_of kept (rows_of kind count (take count start) bytes limit)
+
+abbrev pub invariant-loop-e : goal.invariant-loop-e
+invariant-loop-e l = Inv l.kind l.parameters l.limit l.bytes l.initial.old l.initial.last l.row l.old l.last l.place l.e
+
+abbrev pub decreases-loop-e : goal.decreases-loop-e
+decreases-loop-e l = l.limit - l.e
