@@ -22,13 +22,13 @@ loop-e-init c =
       within = omega arith;
       coefficients = c.matrix_at-from.ensures ∙ ap (λ (k : ℕ). kept_matrix (part k 8 c.args.rows.now)) here;
       place = refl;
-      filled = filled_none _ _ _ _ _ c.requires.1.2;
+      filled = filled_none _ _ _ _ _ c.requires.count_le_envelopes.2;
     }
 
 -- what is known lies too far back for the search
 pub overflow_add-e : goal.overflow_add-e
 overflow_add-e c =
-    omega (arith, c.loop-e-test.true, c.requires.1.0)
+    omega (arith, c.loop-e-test.true, c.requires.count_le_envelopes.0)
 
 pub loop-e-smaller : goal.loop-e-smaller
 loop-e-smaller c = omega (arith, c.loop-e-test.true)
