@@ -14,13 +14,13 @@ use Rattle.ps_stereo_cues.proofs.mapped.Goals as goal
 
 pub slice_bounds-at-end : goal.slice_bounds-at-end
 slice_bounds-at-end c =
-    let room : c.used-count.result ≤ length c.envelope_row-row.result.at = let long : length c.envelope_row-row.result.at ≡ 34 = sym (length-map c.envelope_row-row.result.at _) ∙ c.envelope_row-row.type_inv.1.1.0.1.0.1 in
+    let room : c.used-count.result ≤ length c.envelope_row-row.result.at = let long : length c.envelope_row-row.result.at ≡ 34 = c.envelope_row-row.type_inv.1.1.0.1.0.1 in
     omega (arith, c.used-count.ensures) in
     room
 
 pub slice_bounds-map_row-end : goal.slice_bounds-map_row-end
 slice_bounds-map_row-end c =
-    let room : c.used-count.result ≤ length c.envelope_row-row.result.at = let long : length c.envelope_row-row.result.at ≡ 34 = sym (length-map c.envelope_row-row.result.at _) ∙ c.envelope_row-row.type_inv.1.1.0.1.0.1 in
+    let room : c.used-count.result ≤ length c.envelope_row-row.result.at = let long : length c.envelope_row-row.result.at ≡ 34 = c.envelope_row-row.type_inv.1.1.0.1.0.1 in
     omega (arith, c.used-count.ensures) in
     sym (length-take-le c.used-count.result c.envelope_row-row.result.at room)
 

@@ -17,18 +17,22 @@ use Rattle.ps_stereo_cues.proofs.mapped_phases.Goals as goal
 
 pub slice_bounds-at-end : goal.slice_bounds-at-end
 slice_bounds-at-end c =
-    let room : c.used-count.result ≤ length c.envelope_row-row.result.at = let long : length c.envelope_row-row.result.at ≡ 34 = sym (length-map c.envelope_row-row.result.at _) ∙ c.envelope_row-row.type_inv.1.1.0.1.0.1 in
+    let room : c.used-count.result ≤ length c.envelope_row-row.result.at = let long : length c.envelope_row-row.result.at ≡ 34 = c.envelope_row-row.type_inv.1.1.0.1.0.1 in
     omega (arith, c.used-count.ensures) in
     room
 
 pub slice_bounds-extended-end : goal.slice_bounds-extended-end
 slice_bounds-extended-end c =
-    let room : c.used-count.result ≤ length c.envelope_row-row.result.at = let long : length c.envelope_row-row.result.at ≡ 34 = sym (length-map c.envelope_row-row.result.at _) ∙ c.envelope_row-row.type_inv.1.1.0.1.0.1 in
+    let room : c.used-count.result ≤ length c.envelope_row-row.result.at = let long : length c.envelope_row-row.result.at ≡ 34 = c.envelope_row-row.type_inv.1.1.0.1.0.1 in
     omega (arith, c.used-count.ensures) in
     sym (length-take-le c.used-count.result c.envelope_row-row.result.at room)
 
 pub slice_bounds-extended-end-2 : goal.slice_bounds-extended-end-2
-slice_bounds-extended-end-2 = extended_room
+slice_bounds-extended-end-2 c =
+    let few : c.parameters-wanted.result ≤ 34 = omega (arith, c.parameters-wanted.ensures, parameters_small c.args.config.iid) in
+    let first : List ℤ = take c.used-count.result c.envelope_row-row.result.at in
+    let long : length c.extended-extended.result ≡ 34 = ap length c.extended-extended.ensures ∙ padded_length (pos 0) 34 (extended_to c.parameters-wanted.result first) in
+    rw long few
 
 pub slice_bounds-map_row-end : goal.slice_bounds-map_row-end
 slice_bounds-map_row-end c =
