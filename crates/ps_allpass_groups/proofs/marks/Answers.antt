@@ -9,8 +9,7 @@ use lib.Dec.{eqb}
 use Rattle.layout.specs.declared.Layout.TheVariants.{Bands20, Bands34}
 use Rattle.ps_map.specs.Bands.{conjugated_of}
 use Rattle.ps_allpass_groups.specs.Lanes.{mark_of}
-use Rattle.ps_allpass_groups.proofs.marks.Statement.{statement}
-use Rattle.ps_allpass_groups.proofs.marks.Tie as tie
+use Rattle.ps_allpass_groups.proofs.marks.Goals as goal
 
 -- the first two of the first group
 first : (g i : ℕ) → i < 4 → mark_of i record { any = eqb g 0; a = eqb g 0; b = eqb g 0; c = false; d = false } ≡ conjugated_of Bands20 (4 * g + i)
@@ -34,11 +33,8 @@ third (suc (suc (suc g))) i h =
     let k = 4 * suc (suc (suc g)) + i in
     rw (ne_eqb (suc (suc (suc g))) 2 (λ (e : suc (suc (suc g)) ≡ 2). omega arith), le-ltb k 9 (omega arith), le-ltb k 12 (omega arith))
 
-of_twenty : tie.Need-returns
-of_twenty c = rw c.enum_told.given.1 (first c.before.before.args.g)
+pub returns-in-Bands20 : goal.returns-in-Bands20
+returns-in-Bands20 c = rw c.in-Bands20.is (first c.args.g)
 
-of_thirty_four : tie.Need-returns-2
-of_thirty_four c = rw c.enum-told2.given.1 (third c.before.before.args.g)
-
-pub marks_spec : {M : Type 1} → statement M
-marks_spec = tie.close (tie.spec (λ c. search rules) (λ c. search rules) of_twenty of_thirty_four)
+pub returns-in-Bands34 : goal.returns-in-Bands34
+returns-in-Bands34 c = rw c.in-Bands34.is (third c.args.g)

@@ -6,19 +6,13 @@ use native.Mathlib.Omega.{arith}
 use borrow.Author.Rules.{rules}
 use lib.Ieee.{Float, nan}
 use lib.ListN.{get_or}
-use Rattle.ps_allpass_groups.proofs.lanes.Pair.at.Statement.{statement}
-use Rattle.ps_allpass_groups.proofs.lanes.Pair.at.Tie as tie
+use Rattle.ps_allpass_groups.proofs.lanes.Pair.at.Goals as goal
 
 behind : (xs : List Float) (at i : ℕ) → get_or xs (at + 4 + i) nan ≡ get_or xs (at + i + 4) nan
 behind xs at i = ap (λ (n : ℕ). get_or xs n nan) (omega arith)
 
-returns : tie.Need-returns
+pub returns : goal.returns
 returns c =
-    let a = c.before.before.before.args in
+    let a = c.args in
     let xs = a.xs.now in
-    rw (c.at2.ensures, c.before.at.ensures, behind xs a.at 0, behind xs a.at 1, behind xs a.at 2, behind xs a.at 3) refl
-
-pub at_spec : {M : Type 1} → statement M
-at_spec =
-    tie.close
-    (tie.spec (λ c κs. search rules) (λ c. search rules) (λ c κs. search rules) returns)
+    rw (c.at-2.ensures, c.at.ensures, behind xs a.at 0, behind xs a.at 1, behind xs a.at 2, behind xs a.at 3) refl

@@ -11,24 +11,17 @@ use Rattle.standard.specs.Mixing.{taken}
 use Rattle.ps_allpass_groups.specs.Lanes.{number_of, lane_of}
 use Rattle.ps_allpass_groups.proofs.OfLanes.{lanes_same}
 use Rattle.ps_allpass_groups.proofs.Ways.{taken_by_parts}
-use Rattle.ps_allpass_groups.proofs.mixing.taken.Statement.{statement}
-use Rattle.ps_allpass_groups.proofs.mixing.taken.Tie as tie
+use Rattle.ps_allpass_groups.proofs.mixing.taken.Goals as goal
 
-none : tie.Need-returns
-none c = rw (not-true c.before.before.args.marks.any c.if1.true) refl
+pub returns-then-not-marks : goal.returns-then-not-marks
+returns-then-not-marks c = rw (not-true c.args.marks.any c.if-not-marks.true) refl
 
-some : tie.Need-returns-2
-some c =
-    let tested = c.before.before.before.before.before.before in
-    let a = tested.before.before.args in
+pub returns : goal.returns
+returns c =
+    let a = c.args in
     let flag : ℕ → Bool = λ i. get_or (a.marks.a ∷ a.marks.b ∷ a.marks.c ∷ a.marks.d ∷ []) i false in
-    rw (not-false a.marks.any tested.if1.false, c.signed4.ensures, c.before.signed3.ensures, c.before.before.signed2.ensures, c.before.before.before.signed.ensures)
+    rw (not-false a.marks.any c.if-not-marks.false, c.signed-4.ensures, c.signed-3.ensures, c.signed-2.ensures, c.signed.ensures)
     (lanes_same
     (λ i. record { re = number_of i a.h.re; im = cond (flag i) (neg (number_of i a.h.im)) (number_of i a.h.im) })
     (λ i. taken (flag i) (lane_of i a.h))
     (λ i l. taken_by_parts (flag i) (lane_of i a.h)))
-
-pub taken_spec : {M : Type 1} → statement M
-taken_spec =
-    tie.close
-    (tie.spec none (λ c κs. search rules) (λ c κs. search rules) (λ c κs. search rules) (λ c κs. search rules) some)
