@@ -16,8 +16,7 @@ use Rattle.ps_decorr_allpass.proofs.Places.{owner_is}
 use Rattle.standard.specs.Numbers.{zero}
 use Rattle.ps_decorr_allpass.proofs.Silenced.{silenced_length, silenced_cleared, silenced_kept, silenced_is}
 use Rattle.ps_decorr.proofs.Silenced.{back_length, back_cleared, back_kept}
-use Rattle.ps_decorr.proofs.clear_chains.Statement.{statement}
-use Rattle.ps_decorr.proofs.clear_chains.Tie as tie
+use Rattle.ps_decorr.proofs.clear_chains.Goals as goal
 
 -- the channels of its own group and behind it, by their lanes
 module _ (k i : ℕ) where
@@ -71,19 +70,9 @@ module _ (xs : List Float) (k n : ℕ) (room : 112 * (k / 4) + 112 ≤ length xs
           left m u v ∙ back_cleared at n xs (λ i. i % 4) (k % 4) fits m a (omega arith) (lane_cleared k ((m - at) % 4) (rw (lane m a v) at h))
       cleared m u h false e = silenced_cleared _ (at + 112) group m (omega (arith, group_long)) (rw (mod-eq_of_lt u) (ltb-false m (at + 112) e))
 
-returns : tie.Need-returns
+pub returns : goal.returns
 returns c =
-    let p = c.before.before in
-    let q = p.before.before.before.before in
-    let s = q.before.before.before in
-    let at = 112 * (s.args.k / 4) in
-    p.clear-columns2.ensures
-    ∙ ap (λ (t : List Float). silenced_from (λ m. m % length s.args.delays.now) (at + 112) (put at (at + 112 - at) s.args.delays.now t)) q.clear-columns.ensures
-    ∙ chains _ s.args.k _ s.requires (add-sub_cancel_left at 112)
-
-pub clear_chains_spec : {M : Type 1} → statement M
-clear_chains_spec =
-    tie.close
-    (tie.spec
-    (λ c. search rules) (λ c. search rules) (λ c. search rules) (λ c. search rules) (λ c. search rules) (λ c. search rules)
-    (λ c κs. search rules) (λ c. search rules) (λ c κs. search rules) (λ c. search rules) returns)
+    let at = 112 * (c.args.k / 4) in
+    c.clear_columns-2.ensures
+    ∙ ap (λ (t : List Float). silenced_from (λ m. m % length c.args.delays.now) (at + 112) (put at (at + 112 - at) c.args.delays.now t)) c.clear_columns.ensures
+    ∙ chains _ c.args.k _ c.requires (add-sub_cancel_left at 112)

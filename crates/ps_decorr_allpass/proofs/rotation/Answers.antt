@@ -2,8 +2,7 @@
 use Rattle.std.proofs.Common.{◌≡◌, ℕ, ◌+◌, ◌*◌, ◌≤◌, List, length, get_or, ℤ, pos, ◌∙◌, arith, rules}
 use lib.ListN.{get_or-eq_default}
 use Rattle.fixed.specs.Real.{pair_at}
-use Rattle.ps_decorr_allpass.proofs.rotation.Statement.{statement}
-use Rattle.ps_decorr_allpass.proofs.rotation.Tie as tie
+use Rattle.ps_decorr_allpass.proofs.rotation.Goals as goal
 
 -- past the end every pair is the same
 past_end : (table : List ℤ) (i j : ℕ) → length table ≤ i → length table ≤ j → pair_at table i ≡ pair_at table j
@@ -11,12 +10,7 @@ past_end table i j h u =
     let none : (n : ℕ) → length table ≤ n → get_or table n (pos 0) ≡ pos 0 = λ n r. get_or-eq_default table (pos 0) {n = n} r in
     simp (none i h, none j u, none (i + 1) (omega arith), none (j + 1) (omega arith))
 
-returns_2 : tie.Need-returns-2
-returns_2 c =
-    let a = c.before.before.args in
-    c.pair2.ensures ∙ past_end a.table.now (length a.table.now) (8 * a.k + a.place) (omega arith) (omega arith)
-
-pub rotation_spec : {M : Type 1} → statement M
-rotation_spec =
-    tie.close
-    (tie.spec (λ c. search rules) (λ c. search rules) (λ c κs. search rules) (λ c κs. search rules) (λ c. search rules) returns_2)
+pub returns-else-k-table : goal.returns-else-k-table
+returns-else-k-table c =
+    let a = c.args in
+    c.pair-else-k-table.ensures ∙ past_end a.table.now (length a.table.now) (8 * a.k + a.place) (omega arith) (omega arith)

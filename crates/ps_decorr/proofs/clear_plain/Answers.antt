@@ -21,8 +21,7 @@ use Rattle.standard.specs.Numbers.{zero}
 use Rattle.ps_decorr.specs.State.{plain_owner}
 use Rattle.ps_decorr.proofs.Ranges.{Told, told}
 use Rattle.ps_decorr.proofs.Silenced.{back_length, back_cleared, back_kept}
-use Rattle.ps_decorr.proofs.clear_plain.Statement.{statement}
-use Rattle.ps_decorr.proofs.clear_plain.Tie as tie
+use Rattle.ps_decorr.proofs.clear_plain.Goals as goal
 
 module _ (l : Layout) (k : ℕ) (xs : List Float) (size : length xs ≡ 394) where
   -- a list is right where each number of the ring is, and each of the row
@@ -77,62 +76,44 @@ module _ (l : Layout) (k : ℕ) (xs : List Float) (size : length xs ≡ 394) whe
         (λ m u v. back_kept 336 58 xs _ column (omega arith) m (λ a b. absurd (omega arith)))
         (λ m b u v. back_kept 336 58 xs _ column (omega arith) m (λ a w. omega arith))
 
--- ---- the three kinds
+pub overflow_sub-k : goal.overflow_sub-k
+overflow_sub-k c =
+    let is_long : Told c.args.layout c.args.k Long = told c.args.layout _ c.kind.ensures c.in-Long.is in
+    omega (arith, is_long, c.all_pass.ensures)
 
-is_chain : (c : tie.After-enum-told) → Told c.before.before.before.before.args.layout c.before.before.before.before.args.k AllPass
-is_chain c = told c.before.before.before.before.args.layout _ c.before.before.kind.ensures c.enum_told.given.1
+pub overflow_mul-k : goal.overflow_mul-k
+overflow_mul-k c =
+    let is_long : Told c.args.layout c.args.k Long = told c.args.layout _ c.kind.ensures c.in-Long.is in
+    omega (arith, is_long, c.all_pass.ensures, (bounds c.args.layout).short)
 
-is_long : (c : tie.After-enum-told2) → Told c.before.before.before.before.args.layout c.before.before.before.before.args.k Long
-is_long c = told c.before.before.before.before.args.layout _ c.before.before.kind.ensures c.enum-told2.given.1
+pub clear_columns-requires-in-Long : goal.clear_columns-requires-in-Long
+clear_columns-requires-in-Long c =
+    let is_long : Told c.args.layout c.args.k Long = told c.args.layout _ c.kind.ensures c.in-Long.is in
+    (search rules, omega (arith, is_long, c.all_pass.ensures, (bounds c.args.layout).short))
 
-is_short : (c : tie.After-enum-told3) → Told c.before.before.before.before.args.layout c.before.before.before.before.args.k Short
-is_short c = told c.before.before.before.before.args.layout _ c.before.before.kind.ensures c.enum-told3.given.1
+pub overflow_sub-k-in-Short : goal.overflow_sub-k-in-Short
+overflow_sub-k-in-Short c =
+    let is_short : Told c.args.layout c.args.k Short = told c.args.layout _ c.kind.ensures c.in-Short.is in
+    omega (arith, is_short, c.short_delay.ensures)
 
-sub_clear_columns : tie.Need-overflow-sub-clear-columns-2
-sub_clear_columns c = omega (arith, is_long c.before.before, c.all_pass.ensures)
+pub returns-in-AllPass : goal.returns-in-AllPass
+returns-in-AllPass c =
+    let is_chain : Told c.args.layout c.args.k AllPass = told c.args.layout _ c.kind.ensures c.in-AllPass.is in
+    c.clear_columns.ensures ∙ all c.args.layout c.args.k _ c.requires is_chain
 
-mul_clear_columns : tie.Need-overflow-mul-clear-columns
-mul_clear_columns c = omega (arith, is_long c.before.before, c.all_pass.ensures, (bounds c.before.before.before.before.before.before.args.layout).short)
+pub returns-in-Long : goal.returns-in-Long
+returns-in-Long c =
+    let is_long : Told c.args.layout c.args.k Long = told c.args.layout _ c.kind.ensures c.in-Long.is in
+    let xs = c.args.plain.now in
+    let column = 2 * (c.args.k - c.all_pass.result) in
+    ap (put 336 58 (put 0 336 xs c.clear_columns-in-Long.new.xs)) c.clear_columns-in-Long-2.ensures
+    ∙ ap (λ (t : List Float). put 336 58 (put 0 336 xs t) (silenced_from (λ m. m % 58) 0 (part 336 58 (put 0 336 xs t)))) c.clear_columns-in-Long.ensures
+    ∙ ring_and_row c.args.layout c.args.k xs c.requires column is_long (ap (λ (n : ℕ). 2 * (c.args.k - n)) c.all_pass.ensures)
 
-clear_columns_requires : tie.Need-clear-columns-requires-2
-clear_columns_requires c κs = (search rules, omega (arith, is_long c.before.before, c.all_pass.ensures, (bounds c.before.before.before.before.before.before.args.layout).short))
-
-sub_least : tie.Need-overflow-sub-least
-sub_least c = omega (arith, is_short c.before.before, c.short-delay.ensures)
-
-returns : tie.Need-returns
-returns c =
-    let told = c.before.before.before.before in
-    let s = told.before.before.before.before in
-    c.before.before.clear-columns.ensures ∙ all s.args.layout s.args.k _ s.requires (is_chain told)
-
-returns_2 : tie.Need-returns-2
-returns_2 c =
-    let q = c.before.before.before.before.before.before in
-    let told = q.before.before.before in
-    let s = told.before.before.before.before in
-    let xs = s.args.plain.now in
-    let column = 2 * (s.args.k - q.before.all_pass.result) in
-    ap (put 336 58 (put 0 336 xs q.clear-columns2.new.0)) c.before.before.clear-columns3.ensures
-    ∙ ap (λ (t : List Float). put 336 58 (put 0 336 xs t) (silenced_from (λ m. m % 58) 0 (part 336 58 (put 0 336 xs t)))) q.clear-columns2.ensures
-    ∙ ring_and_row s.args.layout s.args.k xs s.requires column (is_long told) (ap (λ (n : ℕ). 2 * (s.args.k - n)) q.before.all_pass.ensures)
-
-returns_3 : tie.Need-returns-3
-returns_3 c =
-    let q = c.before.before in
-    let told = q.before.before.before.before in
-    let s = told.before.before.before.before in
-    let xs = s.args.plain.now in
-    ap (put 336 58 xs) q.clear-columns4.ensures
-    ∙ row s.args.layout s.args.k xs s.requires _ (is_short told)
-    (ap (λ (n : ℕ). 2 * n) (q.before.least.ensures ∙ ap (λ (n : ℕ). min (s.args.k - n) 29) q.before.before.short-delay.ensures))
-
-pub clear_plain_spec : {M : Type 1} → statement M
-clear_plain_spec =
-    tie.close
-    (tie.spec
-    (λ c κs. search rules) (λ c. search rules) (λ c κs. search rules) (λ c. search rules) (λ c. search rules) (λ c. search rules) (λ c. search rules)
-    (λ c κs. search rules) sub_clear_columns mul_clear_columns clear_columns_requires (λ c. search rules) (λ c. search rules) (λ c. search rules)
-    (λ c κs. search rules) (λ c. search rules) (λ c. search rules) (λ c. search rules) (λ c. search rules) (λ c κs. search rules) sub_least
-    (λ c κs. search rules) (λ c. search rules) (λ c κs. search rules) (λ c. search rules) returns (λ c. search rules) returns_2
-    (λ c. search rules) returns_3)
+pub returns-in-Short : goal.returns-in-Short
+returns-in-Short c =
+    let is_short : Told c.args.layout c.args.k Short = told c.args.layout _ c.kind.ensures c.in-Short.is in
+    let xs = c.args.plain.now in
+    ap (put 336 58 xs) c.clear_columns-in-Short.ensures
+    ∙ row c.args.layout c.args.k xs c.requires _ is_short
+    (ap (λ (n : ℕ). 2 * n) (c.least.ensures ∙ ap (λ (n : ℕ). min (c.args.k - n) 29) c.short_delay.ensures))

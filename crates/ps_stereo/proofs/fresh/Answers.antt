@@ -5,15 +5,11 @@ use lib.IntN.{pos}
 use lib.ListN.{replicate}
 use Rattle.ps_stereo.specs.declared.PsStereo.{PsStereo}
 use Rattle.standard.proofs.Literals.{zero_is}
-use Rattle.ps_stereo.proofs.fresh.Statement.{statement}
-use Rattle.ps_stereo.proofs.fresh.Tie as tie
+use Rattle.ps_stereo.proofs.fresh.Goals as goal
 
 -- a state whose coefficients are all of one value
 abbrev filled : Float → PsStereo
 filled z = record { matrices = replicate 272 z; phases = replicate 136 (pos 0) }
 
-returns : tie.Need-returns
+pub returns : goal.returns
 returns c = ap filled zero_is
-
-pub fresh_spec : {M : Type 1} → statement M
-fresh_spec = tie.close (tie.spec returns)

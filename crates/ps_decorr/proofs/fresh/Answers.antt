@@ -4,15 +4,11 @@ use lib.Ieee.{Float}
 use lib.ListN.{replicate}
 use Rattle.ps_decorr.specs.declared.PsDecorr.{PsDecorr}
 use Rattle.standard.proofs.Literals.{zero_is}
-use Rattle.ps_decorr.proofs.fresh.Statement.{statement}
-use Rattle.ps_decorr.proofs.fresh.Tie as tie
+use Rattle.ps_decorr.proofs.fresh.Goals as goal
 
 -- a state that holds one value everywhere
 abbrev filled : Float → PsDecorr
 filled z = record { turn = 0; delays = replicate 1456 z; plain = replicate 394 z; detectors = replicate 102 z }
 
-returns : tie.Need-returns
+pub returns : goal.returns
 returns c = ap filled zero_is
-
-pub fresh_spec : {M : Type 1} → statement M
-fresh_spec = tie.close (tie.spec returns)
