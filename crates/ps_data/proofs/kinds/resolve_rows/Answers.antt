@@ -7,8 +7,7 @@ use Rattle.cue.specs.declared.Header.{Header}
 use Rattle.ps_rows.specs.declared.ResolvedKind.{ResolvedKind}
 use Rattle.ps_data.specs.declared.PsLines.{PsLines}
 use Rattle.ps_data.specs.Indices.{collected, resolved}
-use Rattle.ps_data.proofs.kinds.resolve_rows.Statement.{statement}
-use Rattle.ps_data.proofs.kinds.resolve_rows.Tie as tie
+use Rattle.ps_data.proofs.kinds.resolve_rows.Goals as goal
 
 -- parts that agree are collected into the same
 same : (s : PsLines) (h : Header) {iid iid' icc icc' ipd ipd' opd opd' : ResolvedKind} {positions positions' : List ℕ}
@@ -16,21 +15,10 @@ same : (s : PsLines) (h : Header) {iid iid' icc icc' ipd ipd' opd opd' : Resolve
     → collected s h iid icc ipd opd positions ≡ collected s h iid' icc' ipd' opd' positions'
 same s h a b c d e = cc
 
-returns : tie.Need-returns
+pub returns : goal.returns
 unfolding resolved
 returns c =
-    let b = c.before in
-    let opd = b.before.before in
-    let ipd = opd.before.before.before.before in
-    let icc = ipd.before.before.before.before in
-    let iid = icc.before.before.before.before in
-    let a = iid.before.before.before.before.before.before.before.args in
+    let a = c.args in
     c.collect.ensures
-    ∙ same a.lines a.h (rw (← iid.before.before.quantiser.ensures) iid.kind-rows.ensures) icc.kind-rows2.ensures ipd.kind-rows3.ensures opd.kind-rows4.ensures
-    b.border-positions.ensures
-
-pub resolve_rows_spec : {M : Type 1} → statement M
-resolve_rows_spec =
-    tie.close
-    (tie.spec
-    (λ c κs. search rules) (λ c κs. search rules) (λ c κs. search rules) (λ c κs. search rules) (λ c κs. search rules) (λ c κs. search rules) (λ c κs. search rules) returns)
+    ∙ same a.lines a.h (rw (← c.quantiser.ensures) c.kind_rows-iid.ensures) c.kind_rows-icc.ensures c.kind_rows-ipd.ensures c.kind_rows-opd.ensures
+    c.border_positions.ensures
