@@ -1,0 +1,14 @@
+use Rattle.std.proofs.Common.{ℕ, ◌-◌, ◌%◌, ◌≤◌, List, length}
+use lib.Ieee.{Float}
+use Rattle.ps_decorr_allpass.proofs.Silenced.{Silenced}
+use Rattle.ps_decorr_allpass.proofs.silence.Given as goal
+
+pub record Inv (lane : ℕ) (xs₀ xs : List Float) (m : ℕ) : Type 0 where
+  pub within : m ≤ length xs
+  pub sofar : Silenced (λ m. m % 4) lane xs₀ m xs
+
+abbrev pub invariant-loop-m : goal.invariant-loop-m
+invariant-loop-m l = Inv l.lane l.initial.xs l.xs l.m
+
+abbrev pub decreases-loop-m : goal.decreases-loop-m
+decreases-loop-m l = length l.initial.xs - l.m
