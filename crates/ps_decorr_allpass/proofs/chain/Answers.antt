@@ -1,5 +1,5 @@
 -- `ps_decorr_allpass::chain` meets its contract: each constant is made as the definition makes it. Assumes nothing.
-use Rattle.std.proofs.Common.{◌≡◌, ◌+◌, ◌*◌, arith}
+use Rattle.std.proofs.Common.{◌≡◌, ◌+◌, ◌*◌, arith, rules}
 use Rattle.decimals.specs.Decorrelation.{all_pass}
 use Rattle.standard.specs.Channel.{chain_from}
 use Rattle.standard.specs.Numbers.{◌⊗◌}

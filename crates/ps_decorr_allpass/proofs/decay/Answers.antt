@@ -1,5 +1,5 @@
 -- `ps_decorr_allpass::decay` meets its contract: the test picks the case, and the operations are those of the definition. Assumes nothing.
-use Rattle.std.proofs.Common.{le-leb}
+use Rattle.std.proofs.Common.{rules, le-leb}
 use borrow.Author.Tests.{lt-leb}
 use Rattle.standard.specs.Channel.{decay}
 use Rattle.standard.specs.Numbers.{◌⊖◌, ◌⊗◌}

@@ -1,5 +1,6 @@
 -- `ps_decorr_allpass::silence` meets its contract: a turn clears its place or, where it is another lane's, passes it. Assumes nothing.
-use Rattle.std.proofs.Common.{◌+◌, ◌%◌, sym, subst, arith}
+use Rattle.std.proofs.Common.{ℕ, ◌+◌, ◌-◌, ◌%◌, ◌≤◌, List, length, sym, subst, ⊎_elim, arith, rules}
+use lib.Ieee.{Float}
 use Rattle.standard.proofs.Literals.{zero_is}
 use Rattle.ps_decorr_allpass.proofs.Silenced.{Silenced, silenced_none, silenced_past, silenced_more, silenced_all}
 use Rattle.ps_decorr_allpass.proofs.silence.Goals as goal
@@ -19,8 +20,8 @@ loop-m-preserved c =
     let long = l.invariant.sofar.long in
     let again : Silenced (λ m. m % 4) a.lane a.xs.now (l.m + 1) c.if-lane-m.xs =
     elim c.if-lane-m.branch [
-      | then-lane-m w ↦ subst (Silenced (λ m. m % 4) a.lane a.xs.now (l.m + 1)) (sym w.xs-is) (silenced_more l.invariant.sofar _ zero_is (omega arith) (omega arith))
-      | else-lane-m w ↦ subst (Silenced (λ m. m % 4) a.lane a.xs.now (l.m + 1)) (sym w.xs-is) (silenced_past l.invariant.sofar (l.m + 1) (λ m a b. omega arith))
+      then-lane-m w ↦ subst (Silenced (λ m. m % 4) a.lane a.xs.now (l.m + 1)) (sym w.xs-is) (silenced_more l.invariant.sofar _ zero_is (omega arith) w.if-lane-m.true) |
+      else-lane-m w ↦ subst (Silenced (λ m. m % 4) a.lane a.xs.now (l.m + 1)) (sym w.xs-is) (silenced_past l.invariant.sofar (l.m + 1) (λ m a b. omega (arith, w.if-lane-m.false)))
     ] in
     record { within = omega (arith, again.long); sofar = again }
 

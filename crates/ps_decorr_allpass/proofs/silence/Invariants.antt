@@ -1,6 +1,7 @@
-use Rattle.std.proofs.Common.{ℕ, ◌-◌, ◌%◌, ◌≤◌, List, length}
+use Rattle.std.proofs.Common.{ℕ, ◌+◌, ◌-◌, ◌%◌, ◌≤◌, List, length, sym, subst, ⊎_elim, arith, rules}
 use lib.Ieee.{Float}
-use Rattle.ps_decorr_allpass.proofs.Silenced.{Silenced}
+use Rattle.standard.proofs.Literals.{zero_is}
+use Rattle.ps_decorr_allpass.proofs.Silenced.{Silenced, silenced_none, silenced_past, silenced_more, silenced_all}
 use Rattle.ps_decorr_allpass.proofs.silence.Given as goal
 
 pub record Inv (lane : ℕ) (xs₀ xs : List Float) (m : ℕ) : Type 0 where
