@@ -1,4 +1,5 @@
 -- `ps_data::kinds::kind_rows` meets its contract: what is lent of the line is all from the place on, and past the end it is nothing, as in the definition. Assumes nothing.
+use borrow.Author.Rules.{rules}
 use borrow.Author.Tests.{not-true, not-false}
 use mathlib.Core.Path.{ap, ◌∙◌}
 use Rattle.ps_rows.specs.Rows.{resolve_kind}
