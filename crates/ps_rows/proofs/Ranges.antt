@@ -2,7 +2,7 @@
 use mathlib.Core.Path.{◌≡◌, refl, ap, ◌∙◌}
 use mathlib.Core.Bool.{Bool, true, false, cond}
 use mathlib.Core.List.{List, [], ◌∷◌, ◌++◌, map}
-use Prim.Native.Nat.{ℕ, zero, suc, ◌-◌, ◌%◌, min}
+use Prim.Native.Nat.{ℕ, zero, suc, ◌+◌, ◌-◌, ◌%◌, min}
 use native.Mathlib.Omega.{arith}
 use borrow.Author.Tests.{le-ltb}
 use lib.Dec.{eqb}
@@ -50,7 +50,7 @@ row_length kind count old bytes =
 pub rows_length : (kind : Kind) (count : ℕ) (old : List ℤ) (bytes : List ℕ) (n : ℕ) → length (rows_of kind count old bytes n) ≡ n
 unfolding rows_of
 rows_length kind count old bytes zero = refl
-rows_length kind count old bytes (suc n) = ap suc (rows_length kind count _ _ n)
+rows_length kind count old bytes (suc n) = ap suc (rows_length kind count (row_of kind count old bytes) (drop (count + 1) bytes) n)
 
 -- ---- ranges: IID -7..7 or, fine, -15..15; ICC, IPD and OPD 0..7
 abbrev pub lowest : Kind → ℤ
@@ -115,7 +115,7 @@ pub rows_in_range : (kind : Kind) (count : ℕ) (old : List ℤ) (bytes : List �
 unfolding rows_of
 rows_in_range kind count old bytes zero e i = zero_in_range kind
 rows_in_range kind count old bytes (suc n) zero i = row_in_range kind count old bytes i
-rows_in_range kind count old bytes (suc n) (suc e) i = rows_in_range kind count _ _ n e i
+rows_in_range kind count old bytes (suc n) (suc e) i = rows_in_range kind count (row_of kind count old bytes) (drop (count + 1) bytes) n e i
 
 -- ---- the same of the rows in their places
 -- what holds at every place of a list, and of the default, holds at every place of its front

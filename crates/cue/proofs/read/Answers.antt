@@ -26,18 +26,18 @@ unfolding read_line
 returns-then-is_ragged c =
     let all_digits : let text = c.args.text.now in ltb (before is_digit text) (length text) ≡ false = rw (← c.first_other.ensures) (le-ltb _ _ c.if-first_other-digits.false) in
     c.refuse-then-is_ragged.ensures
-    ∙ rw (le-ltb _ _ c.if-digits-gt-DIGITS.left, all_digits, sym c.is_ragged.ensures ∙ c.if-is_ragged.true)
+    ∙ rw (le-ltb _ _ c.if-digits-gt-DIGITS.false, all_digits, sym c.is_ragged.ensures ∙ c.if-is_ragged.true)
 
 pub returns-then-digits-eq0 : goal.returns-then-digits-eq0
 unfolding read_line
 returns-then-digits-eq0 c =
     let all_digits : let text = c.args.text.now in ltb (before is_digit text) (length text) ≡ false = rw (← c.first_other.ensures) (le-ltb _ _ c.if-first_other-digits.false) in
     c.no_cue.ensures
-    ∙ rw (le-ltb _ _ c.if-digits-gt-DIGITS.left, all_digits, sym c.is_ragged.ensures ∙ c.if-is_ragged.false, eq-eqb _ _ c.if-digits-eq0.true)
+    ∙ rw (le-ltb _ _ c.if-digits-gt-DIGITS.false, all_digits, sym c.is_ragged.ensures ∙ c.if-is_ragged.false, eq-eqb _ _ c.if-digits-eq0.true)
 
 pub returns : goal.returns
 unfolding read_line
 returns c =
     let all_digits : let text = c.args.text.now in ltb (before is_digit text) (length text) ≡ false = rw (← c.first_other.ensures) (le-ltb _ _ c.if-first_other-digits.false) in
     c.read_bytes.ensures
-    ∙ rw (c.bytes-bytes.ensures, le-ltb _ _ c.if-digits-gt-DIGITS.left, all_digits, sym c.is_ragged.ensures ∙ c.if-is_ragged.false, ne_eqb _ _ c.if-digits-eq0.false)
+    ∙ rw (c.bytes-bytes.ensures, le-ltb _ _ c.if-digits-gt-DIGITS.false, all_digits, sym c.is_ragged.ensures ∙ c.if-is_ragged.false, ne_eqb _ _ c.if-digits-eq0.false)

@@ -54,9 +54,8 @@ returns-in_default-first_bad_field c =
     let places_are : c.places-places.result ≡ places_of (header_of bytes) = c.places-places.ensures ∙ ap places_of header_is in
     let end_is : eqb digits (2 * c.places-places.result.end) ≡ eqb digits (2 * (places_of (header_of bytes)).end) = ap (λ (p : Places). eqb digits (2 * p.end)) places_are in
     let length_fits : eqb digits (2 * (places_of (header_of bytes)).end) ≡ true = sym end_is ∙ eq-eqb _ _ c.if-digits-places.false in
-    let fields_are : let p = c in found (bytes p) (body_checks (header_of (bytes p))) ≡ c.first_bad_field.result = let p = c in
-    sym (c.first_bad_field.ensures ∙ ap (λ (h : Header). found (bytes p) (body_checks h)) (header_is p)) in
-    c.refuse-in_default-first_bad_field.ensures ∙ rw (head_fits c, length_fits, fields_are ∙ c.in_default-first_bad_field.is)
+    let fields_are : found bytes (body_checks (header_of bytes)) ≡ c.first_bad_field.result = sym (c.first_bad_field.ensures ∙ ap (λ (h : Header). found bytes (body_checks h)) header_is) in
+    c.refuse-in_default-first_bad_field.ensures ∙ rw (head_fits, length_fits, fields_are ∙ c.in_default-first_bad_field.is)
 
 pub returns : goal.returns
 unfolding read_bytes
@@ -68,8 +67,6 @@ returns c =
     let places_are : c.places-places.result ≡ places_of (header_of bytes) = c.places-places.ensures ∙ ap places_of header_is in
     let end_is : eqb digits (2 * c.places-places.result.end) ≡ eqb digits (2 * (places_of (header_of bytes)).end) = ap (λ (p : Places). eqb digits (2 * p.end)) places_are in
     let length_fits : eqb digits (2 * (places_of (header_of bytes)).end) ≡ true = sym end_is ∙ eq-eqb _ _ c.if-digits-places.false in
-    let fields_are : let p = c in found (bytes p) (body_checks (header_of (bytes p))) ≡ c.first_bad_field.result = let p = c in
-    sym (c.first_bad_field.ensures ∙ ap (λ (h : Header). found (bytes p) (body_checks h)) (header_is p)) in
-    let p = c in
-    same _ _ _ (bytes p) (header_is p) (places_are p)
-    ∙ rw (head_fits p, length_fits, fields_are ∙ c.in-Nothing-first_bad_field.is)
+    let fields_are : found bytes (body_checks (header_of bytes)) ≡ c.first_bad_field.result = sym (c.first_bad_field.ensures ∙ ap (λ (h : Header). found bytes (body_checks h)) header_is) in
+    same _ _ _ bytes header_is places_are
+    ∙ rw (head_fits, length_fits, fields_are ∙ c.in-Nothing-first_bad_field.is)

@@ -3,4 +3,4 @@ use borrow.Author.Rules.{rules}
 use Rattle.cue.proofs.refuse.Goals as goal
 
 pub returns : goal.returns
-returns c = rw (c.places.ensures, c.no_Header.ensures)
+returns c = rw (c.places.ensures, c.no_header.ensures)

@@ -1,5 +1,5 @@
 -- `exact_numbers::kept_pair` meets its contract: both shifted indices are below 256, so that the sum fits. Assumes nothing.
-use Rattle.std.proofs.Common.{w8, rules}
+use Rattle.std.proofs.Common.{w8}
 use Rattle.integers.proofs.Bits.{back}
 use Rattle.exact_numbers.specs.Numbers.{kept_pair}
 use Rattle.exact_numbers.proofs.kept_pair.Goals as goal

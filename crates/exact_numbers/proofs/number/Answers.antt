@@ -1,5 +1,5 @@
 -- `exact_numbers::number` meets its contract: where a test fails the float lies beyond a u64, and reads as an end of its range. Assumes nothing.
-use Rattle.std.proofs.Common.{T, sym, subst, arith, rules, le-leb}
+use Rattle.std.proofs.Common.{T, sym, subst, arith, le-leb}
 use borrow.Author.Tests.{lt-leb}
 use lib.Ieee.{of_bits, neg}
 use Rattle.exact_numbers.specs.Numbers.{number_in}
@@ -8,7 +8,7 @@ use Rattle.exact_numbers.proofs.number.Goals as goal
 
 pub truncating_f64_to_u64-n-requires : goal.truncating_f64_to_u64-n-requires
 unfolding of_bits neg
-truncating_f64_to_u64-n-requires c = (subst T (sym c.if-x.true) tt, subst T (sym c.if-x-2.true) tt)
+truncating_f64_to_u64-n-requires c = record { lower_bound = subst T (sym c.if-x.true) tt; upper_bound = subst T (sym c.if-x-2.true) tt }
 
 pub returns-then-n-limit : goal.returns-then-n-limit
 unfolding number_in

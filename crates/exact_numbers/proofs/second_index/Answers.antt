@@ -1,5 +1,5 @@
 -- `exact_numbers::second_index` meets its contract: a number of 0..65535 is two bytes. Assumes nothing.
-use Rattle.std.proofs.Common.{w8, rules}
+use Rattle.std.proofs.Common.{w8}
 use Rattle.integers.proofs.Bits.{via}
 use Rattle.exact_numbers.specs.Numbers.{second_in}
 use Rattle.exact_numbers.proofs.second_index.Goals as goal

@@ -19,12 +19,12 @@ loop-i-init c = (omega arith, refl)
 pub returns-then-not-value_fits : goal.returns-then-not-value_fits
 returns-then-not-value_fits c =
     let tested : value_fits (get_or c.args.v.now c.loop-i.i (pos 0)) ≡ c.value_fits.result = sym (c.value_fits.ensures ∙ ap value_fits (back w8 (get_or c.args.v.now c.loop-i.i (pos 0)) c.value_fits-arg-1.given)) in
-    all_failed value_fits c.args.v.now c.loop-i.i (pos 0) (omega arith) (tested ∙ not-true _ c.if-not-value_fits.true) c.loop-i.invariant.1
+    all_failed value_fits c.args.v.now c.loop-i.i (pos 0) (omega arith) (tested ∙ c.if-not-value_fits.true) c.loop-i.invariant.1
 
 pub loop-i-preserved : goal.loop-i-preserved
 loop-i-preserved c =
     let tested : value_fits (get_or c.args.v.now c.loop-i.i (pos 0)) ≡ c.value_fits.result = sym (c.value_fits.ensures ∙ ap value_fits (back w8 (get_or c.args.v.now c.loop-i.i (pos 0)) c.value_fits-arg-1.given)) in
-    (omega arith, all_passed value_fits c.args.v.now c.loop-i.i (pos 0) (omega arith) (tested ∙ not-false _ c.if-not-value_fits.false) c.loop-i.invariant.1)
+    (omega arith, all_passed value_fits c.args.v.now c.loop-i.i (pos 0) (omega arith) (tested ∙ c.if-not-value_fits.false) c.loop-i.invariant.1)
 
 pub returns : goal.returns
 returns c = all_done value_fits c.args.v.now c.loop-i.i (omega arith) c.loop-i.invariant.1

@@ -16,7 +16,7 @@ use Rattle.ps_map.proofs.map_coefficients.Goals as goal
 pub loop-i-init : goal.loop-i-init
 loop-i-init c =
     let s = c.args in
-    bands_none (coefficient_from s.t1) (of_bits binary64 0) s.layout c.sources-table.result c.bands-bands.result c.sources-table.ensures
+    bands_none (coefficient_from s.v) (of_bits binary64 0) s.layout c.sources-table.result c.bands-bands.result c.sources-table.ensures
     c.bands-bands.ensures
 
 pub loop-i-preserved : goal.loop-i-preserved
@@ -27,6 +27,6 @@ pub returns : goal.returns
 unfolding map_coefficients
 returns c =
     let s = c.args in
-    bands_all (coefficient_from s.t1) (of_bits binary64 0) s.layout c.sources-table.result c.bands-bands.result c.sources-table.ensures c.bands-bands.ensures
+    bands_all (coefficient_from s.v) (of_bits binary64 0) s.layout c.sources-table.result c.bands-bands.result c.sources-table.ensures c.bands-bands.ensures
     c.loop-i.out c.loop-i.i c.loop-i.invariant c.loop-i-test.false
-    ∙ ap (λ (z : Float). padded 34 z (map (coefficient_from s.t1) (sources_of s.layout))) none
+    ∙ ap (λ (z : Float). padded 34 z (map (coefficient_from s.v) (sources_of s.layout))) none

@@ -7,8 +7,8 @@ use Rattle.ps_map.proofs.map_values.Goals as goal
 
 pub returns-then-not-all_values_fit : goal.returns-then-not-all_values_fit
 unfolding by_values
-returns-then-not-all_values_fit c = c.refuse.ensures ∙ simp (sym c.all_values_fit.ensures ∙ not-true _ c.if-not-all_values_fit.true)
+returns-then-not-all_values_fit c = c.refuse.ensures ∙ simp (sym c.all_values_fit.ensures ∙ c.if-not-all_values_fit.true)
 
 pub returns : goal.returns
 unfolding by_values
-returns c = simp (sym c.all_values_fit.ensures ∙ not-false _ c.if-not-all_values_fit.false, c.map_row-row.ensures)
+returns c = simp (sym c.all_values_fit.ensures ∙ c.if-not-all_values_fit.false, c.map_row-row.ensures)

@@ -1,5 +1,4 @@
 -- `ps_rows::envelope_row` meets its contract: each branch is the case of `row_of` that the time byte picks. Assumes nothing.
-use borrow.Author.Rules.{rules}
 use borrow.Author.Tests.{eq-eqb, ne_eqb}
 use mathlib.Core.Path.{◌≡◌, sym, ◌∙◌}
 use lib.ListN.{drop, get_or}

@@ -1,14 +1,13 @@
 -- `ps_rows::resolve_kind` meets its contract: before each turn the places that are filled, and the rows of the envelopes that are left from the row before them, make the whole, and so does the last row. Assumes nothing.
-use borrow.Author.Rules.{rules}
 use native.Mathlib.Omega.{arith}
 use native.Mathlib.Nat.{sub-zero}
 use mathlib.Core.Path.{◌≡◌, sym, ◌∙◌}
-use mathlib.Core.List.{List, [], map}
-use Prim.Native.Nat.{ℕ, ◌≤◌, ◌-◌, ◌*◌, min}
+use mathlib.Core.List.{List, []}
+use Prim.Native.Nat.{ℕ, ◌-◌, min}
 use lib.IntN.{ℤ}
-use lib.ListN.{take, drop, replicate}
+use lib.ListN.{take, replicate}
 use Rattle.limits.specs.Limits as limits
-use Rattle.lists.proofs.Fills.{Filled, filled_none, filled_more}
+use Rattle.lists.proofs.Fills.{filled_none, filled_more}
 use Rattle.ps_rows.specs.declared.Kind.{Kind}
 use Rattle.ps_rows.specs.declared.Row.{Row}
 use Rattle.ps_rows.specs.declared.Rows.{Rows}

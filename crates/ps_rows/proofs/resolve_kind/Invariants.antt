@@ -1,21 +1,13 @@
-use borrow.Author.Rules.{rules}
-use native.Mathlib.Omega.{arith}
-use native.Mathlib.Nat.{sub-zero}
-use mathlib.Core.Path.{◌≡◌, sym, ◌∙◌}
+use mathlib.Core.Path.{◌≡◌}
 use mathlib.Core.List.{List, [], map}
-use Prim.Native.Nat.{ℕ, ◌≤◌, ◌-◌, ◌*◌, min}
+use Prim.Native.Nat.{ℕ, ◌≤◌, ◌-◌, ◌*◌}
 use lib.IntN.{ℤ}
 use lib.ListN.{take, drop, replicate}
 use Rattle.limits.specs.Limits as limits
-use Rattle.lists.proofs.Fills.{Filled, filled_none, filled_more}
+use Rattle.lists.proofs.Fills.{Filled}
 use Rattle.ps_rows.specs.declared.Kind.{Kind}
 use Rattle.ps_rows.specs.declared.Row.{Row}
-use Rattle.ps_rows.specs.declared.Rows.{Rows}
-use Rattle.ps_rows.specs.declared.ResolvedKind.{ResolvedKind}
-use Rattle.ps_rows.specs.Rows.{rows_of, padded_row, padded_rows, start_of, last_of, resolved_from, resolve_kind}
-use Rattle.ps_rows.proofs.Places.{held_rows}
-use Rattle.ps_rows.proofs.Ranges.{rows_length}
-use Rattle.ps_rows.proofs.Turns.{rows_turn}
+use Rattle.ps_rows.specs.Rows.{rows_of, padded_row, last_of}
 use Rattle.ps_rows.proofs.resolve_kind.Given as goal
 
 -- `start` is what the first envelope starts from

@@ -1,5 +1,4 @@
 -- `ps_rows::start` meets its contract: each branch is the case of `start_of` that the test of the length picks. Assumes nothing.
-use borrow.Author.Rules.{rules}
 use borrow.Author.Tests.{eq-eqb, ne_eqb}
 use mathlib.Core.Path.{◌∙◌}
 use lib.IntN.{pos}

@@ -1,6 +1,5 @@
 -- `cue::digits::first_other` meets its contract: the characters passed are digits, so the rest decides. Assumes nothing.
 use borrow.Author.Rules.{rules}
-use borrow.Author.Tests.{not-true, not-false}
 use mathlib.Core.Path.{◌≡◌, refl, sym, ◌∙◌}
 use Prim.Native.Nat.{◌≤◌, ◌-◌, ◌+◌}
 use native.Mathlib.Omega.{arith}
@@ -16,14 +15,14 @@ loop-i-init c = (omega arith, omega arith)
 pub returns-then-not-is_digit : goal.returns-then-not-is_digit
 returns-then-not-is_digit c =
     before_failed is_digit c.args.text.now c.loop-i.i 0 (omega arith)
-    (sym c.is_digit.ensures ∙ not-true _ c.if-not-is_digit.true)
+    (sym c.is_digit.ensures ∙ c.if-not-is_digit.true)
     c.loop-i.invariant.1
 
 pub loop-i-preserved : goal.loop-i-preserved
 loop-i-preserved c = (
   omega arith,
   before_passed is_digit c.args.text.now c.loop-i.i 0 (omega arith)
-      (sym c.is_digit.ensures ∙ not-false _ c.if-not-is_digit.false)
+      (sym c.is_digit.ensures ∙ c.if-not-is_digit.false)
       c.loop-i.invariant.1,
 )
 

@@ -6,9 +6,6 @@ use Rattle.cue.specs.Fields.{places_of}
 use Rattle.cue.proofs.Sizes.{count_small, phase_count_small}
 use Rattle.cue.proofs.fields.places.Goals as goal
 
-opd_place : (c : goal.After-end-3) → c.end-3.result ≤ 27034
-opd_place c = omega (arith, c.end-3.ensures.1, ipd_place c)
-
 pub end-requires : goal.end-requires
 end-requires c =
     let iid_count : c.count.result ≤ 34 = rw c.count.ensures (count_small c.args.h.config.iid) in
@@ -30,7 +27,10 @@ end-requires-3 c =
 pub end-requires-4 : goal.end-requires-4
 end-requires-4 c =
     let phase_count : c.phase_count-phases.result ≤ 34 = rw c.phase_count-phases.ensures (phase_count_small c.args.h.config) in
-    (omega (arith, opd_place c), phase_count)
+    let icc_place : c.end.result ≤ 9184 = omega (arith, c.end.ensures.1, c.borders_size.ensures.1) in
+    let ipd_place : c.end-2.result ≤ 18109 = omega (arith, c.end-2.ensures.1, icc_place) in
+    let opd_place : c.end-3.result ≤ 27034 = omega (arith, c.end-3.ensures.1, ipd_place) in
+    (omega (arith, opd_place), phase_count)
 
 pub returns : goal.returns
 unfolding places_of

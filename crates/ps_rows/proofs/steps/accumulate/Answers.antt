@@ -1,27 +1,15 @@
 -- `ps_rows::steps::accumulate` meets its contract: the sum of two bytes fits an i32, so that what is limited is the sum itself. Assumes nothing.
-use borrow.Author.Rules.{rules}
 use native.Mathlib.Omega.{arith}
 use Prim.Native.Nat.{◌<◌}
 use lib.IntN.{◌+ℤ◌}
 use lib.Signed.{mag}
 use mir.Syntax.{w8, w32}
-use mir.Facts.{to_z-of_z, sfits_widen}
 use Rattle.integers.specs.Integers.{byte_z}
 use Rattle.integers.proofs.Sizes.{mag_add}
 use Rattle.integers.proofs.Ranges.{mag_byte}
 use Rattle.integers.proofs.Bits.{back, via, wide}
 use Rattle.ps_rows.specs.Steps.{step}
 use Rattle.ps_rows.proofs.steps.accumulate.Goals as goal
-
-pub overflow_cast-wide : goal.overflow_cast-wide
-overflow_cast-wide c = rw (to_z-of_z c.ranges.previous) (sfits_widen tt c.ranges.previous)
-
-pub overflow_add-wide : goal.overflow_add-wide
-overflow_add-wide c =
-    let sum_fits : mag (c.args.previous +ℤ byte_z c.args.delta) < 2147483648 = omega (arith, mag_add c.args.previous (byte_z c.args.delta), mag_byte c.args.delta c.ranges.delta.fits, c.ranges.previous.sfits) in
-    rw
-    (wide w8 w32 c.args.previous tt c.ranges.previous.sfits, via w32 c.signed.result _ c.signed.type_inv c.signed.ensures)
-    (record { sfits = sum_fits })
 
 pub returns : goal.returns
 unfolding step

@@ -1,0 +1,6 @@
+-- `ps_data::fresh` meets its contract: no configuration, and no rows. Assumes nothing.
+use borrow.Author.Rules.{rules}
+use Rattle.ps_data.proofs.fresh.Goals as goal
+
+pub returns : goal.returns
+returns c = rw c.no_rows.ensures

@@ -1,0 +1,6 @@
+-- `ps_data::leave` meets its contract: no indices, and the state as it came. Assumes nothing.
+use borrow.Author.Rules.{rules}
+use Rattle.ps_data.proofs.leave.Goals as goal
+
+pub returns : goal.returns
+returns c = rw c.no_indices-none.ensures

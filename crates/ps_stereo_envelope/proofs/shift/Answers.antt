@@ -1,0 +1,28 @@
+-- `ps_stereo_envelope::shift` meets its contract: without phase the four indices stay, and with it all four are written. Assumes nothing.
+use mathlib.Core.Path.{◌∙◌}
+use borrow.Author.Rules.{rules}
+use borrow.Author.Tests.{not-true, not-false}
+use lib.IntN.{pos}
+use lib.ListN.{get_or}
+use mir.Syntax.{w8}
+use Rattle.integers.proofs.Bits.{back}
+use Rattle.standard.specs.Mixing.{phases_after}
+use Rattle.ps_stereo_envelope.proofs.Matrices.{four_kept, four_written}
+use Rattle.ps_stereo_envelope.proofs.shift.Goals as goal
+
+pub returns-then-not-phase : goal.returns-then-not-phase
+unfolding phases_after
+returns-then-not-phase c = four_kept c.args.phases.now c.requires ∙ rw (c.if-not-phase.true)
+
+pub returns : goal.returns
+unfolding phases_after
+returns c =
+    let a = c.args in
+    four_written a.phases.now _ _ _ _ c.requires
+    ∙ rw (
+      back w8 (get_or a.phases.now 1 (pos 0)) (search rules),
+      back w8 (get_or a.phases.now 3 (pos 0)) (search rules),
+      back w8 a.indices.ipd (search rules),
+      back w8 a.indices.opd (search rules),
+      c.if-not-phase.false,
+    )

@@ -1,0 +1,27 @@
+use mathlib.Core.Path.{◌≡◌, refl, ap, ◌∙◌}
+use mathlib.Core.List.{List}
+use Prim.Native.Nat.{ℕ, ◌+◌, ◌*◌, ◌-◌, ◌≤◌, min}
+use borrow.Author.Rules.{rules}
+use native.Mathlib.Omega.{arith}
+use lib.Ieee.{Float}
+use Rattle.lists.specs.Part.{part}
+use Rattle.planar.specs.Frame.{kept_matrix}
+use Rattle.standard.specs.declared.Matrix.{Matrix}
+use Rattle.standard.specs.Interpolation.{start}
+use Rattle.ps_stereo_slots.specs.Slots.{fraction_at}
+use Rattle.ps_stereo_slots.specs.Regions.{row_matrix}
+use Rattle.ps_stereo_slots.proofs.Borders.{start_next, lent_fraction}
+use Rattle.ps_stereo_slots.proofs.Filled.{Filled, filled_none, region_filled, filled_held}
+use Rattle.ps_stereo_slots.proofs.envelopes.Given as goal
+
+pub record Inv (rows : List Float) (at : ℕ) (fractions : List Float) (borders : List ℕ) (count slots : ℕ) (old out : List Float) (from : Matrix) (first e : ℕ) : Type 0 where
+  pub within : e ≤ count
+  pub coefficients : from ≡ row_matrix rows at e
+  pub place : first ≡ start borders e
+  pub filled : Filled borders (fraction_at fractions) (row_matrix rows at) slots old e out
+
+abbrev pub invariant-loop-e : goal.invariant-loop-e
+invariant-loop-e l = Inv l.rows l.at l.fractions l.borders l.count l.slots l.initial.out l.out l.from l.first l.e
+
+abbrev pub decreases-loop-e : goal.decreases-loop-e
+decreases-loop-e l = l.count - l.e

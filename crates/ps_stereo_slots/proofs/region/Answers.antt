@@ -1,0 +1,30 @@
+-- `ps_stereo_slots::region` meets its contract: each turn stores from + step t in one slot more. Assumes nothing.
+use mathlib.Core.Path.{refl}
+use mathlib.Core.Logic.{◌⊎◌, inl, inr}
+use Prim.Native.Nat.{◌≤◌, ◌-◌}
+use borrow.Author.Rules.{rules}
+use native.Mathlib.Omega.{arith}
+use lib.Ieee.{nan}
+use lib.ListN.{get_or}
+use Rattle.standard.specs.Interpolation.{towards, between}
+use Rattle.ps_stereo_slots.specs.Regions.{stepped, Written}
+use Rattle.ps_stereo_slots.proofs.Filled.{written_none, written_more, written_all}
+use Rattle.ps_stereo_slots.proofs.region.Goals as goal
+
+pub loop-n-init : goal.loop-n-init
+loop-n-init c = (omega arith, inl (omega arith), written_none _ _ _ c.requires.2)
+
+pub loop-n-preserved : goal.loop-n-preserved
+loop-n-preserved c =
+    let s = c.args in (
+      omega arith,
+      inr (omega arith),
+      rw c.put_step.ensures
+          (written_more c.loop-n.invariant.2 (stepped s.from c.step-way.result (get_or s.fractions.now c.loop-n.n nan)) refl (omega arith) (omega arith)),
+    )
+
+pub returns : goal.returns
+unfolding between towards
+returns c =
+    let s = c.args in
+    rw c.step-way.ensures at (written_all c.loop-n.invariant.2 s.end (omega arith) c.loop-n.invariant.1)
