@@ -1,4 +1,5 @@
 -- `ps_memory::layout_in` meets its contract: each branch is the case that the flag picks. Assumes nothing.
+use borrow.Author.Rules.{rules}
 use mathlib.Core.Path.{sym, ◌∙◌}
 use Rattle.ps_memory.proofs.layout_in.Goals as goal
 

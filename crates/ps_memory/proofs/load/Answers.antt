@@ -1,5 +1,6 @@
 -- `ps_memory::load` meets its contract: the length is the test. Assumes nothing.
 use borrow.Author.Tests.{eq-eqb, ne_eqb}
+use borrow.Author.Rules.{rules}
 use Rattle.ps_memory.specs.Place.{loaded_from}
 use Rattle.ps_memory.proofs.load.Goals as goal
 

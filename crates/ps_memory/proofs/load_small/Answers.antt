@@ -1,4 +1,5 @@
 -- `ps_memory::load_small` meets its contract: each part is read from its place. Assumes nothing.
+use borrow.Author.Rules.{rules}
 use Rattle.ps_memory.proofs.Read.{carried_read}
 use Rattle.ps_memory.proofs.load_small.Goals as goal
 

@@ -1,5 +1,6 @@
 -- `ps_memory::start` meets its contract: the length is the test; the sound is silent, and what is small is fresh. Assumes nothing.
 use borrow.Author.Tests.{eq-eqb, ne_eqb}
+use borrow.Author.Rules.{rules}
 use Rattle.ps_memory.specs.Place.{started_in}
 use Rattle.ps_memory.proofs.Laid.{fresh_laid}
 use Rattle.ps_memory.proofs.start.Goals as goal

@@ -1,5 +1,6 @@
 -- `ps_memory::store` meets its contract: the length is the test. Assumes nothing.
 use borrow.Author.Tests.{eq-eqb, ne_eqb}
+use borrow.Author.Rules.{rules}
 use Rattle.ps_memory.specs.Place.{stored_in}
 use Rattle.ps_memory.proofs.store.Goals as goal
 

@@ -1,5 +1,6 @@
 -- `ps_memory::store_head` meets its contract: as many numbers as there are places. Assumes nothing.
 use mathlib.Core.List.{[], ◌∷◌}
+use borrow.Author.Rules.{rules}
 use Rattle.ps_memory.specs.Place.{head_image}
 use Rattle.ps_memory.proofs.Laid.{all_set}
 use Rattle.ps_memory.proofs.store_head.Goals as goal

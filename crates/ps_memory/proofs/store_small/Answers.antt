@@ -1,4 +1,5 @@
 -- `ps_memory::store_small` meets its contract: the parts are stored from the last to the first. Assumes nothing.
+use borrow.Author.Rules.{rules}
 use Rattle.ps_memory.proofs.Laid.{small_laid}
 use Rattle.ps_memory.proofs.store_small.Goals as goal
 

@@ -1,4 +1,5 @@
 -- `ps_memory::lines::load` meets its contract: the flag and the rows are read one after the other. Assumes nothing.
+use borrow.Author.Rules.{rules}
 use Rattle.ps_memory.proofs.Read.{lines_read}
 use Rattle.ps_memory.proofs.lines.load.Goals as goal
 

@@ -1,5 +1,6 @@
 -- `ps_memory::lines::load_row` meets its contract: the count and the places are read apart. Assumes nothing.
 use Rattle.ps_memory.proofs.Read.{row_read}
+use borrow.Author.Rules.{rules}
 use Rattle.ps_memory.proofs.lines.load_row.Goals as goal
 
 pub returns : goal.returns

@@ -1,13 +1,13 @@
 -- `ps_memory::lines::pack` meets its contract: after i turns the first i floats hold the first 2 i indices. Assumes nothing.
-use mathlib.Core.Path.{refl, ap₂, ◌∙◌}
-use Prim.Native.Nat.{◌+◌, ◌*◌}
+use mathlib.Core.Path.{◌≡◌, refl, ap₂, ◌∙◌}
+use Prim.Native.Nat.{◌≤◌, ◌-◌, ◌+◌, ◌*◌}
 use native.Mathlib.Omega.{arith}
 use lib.IntN.{pos}
 use lib.ListN.{length, get_or, length-set}
 use mir.Syntax.{w8}
 use Rattle.exact_numbers.specs.Numbers.{kept_pair}
 use Rattle.integers.proofs.Bits.{back}
-use Rattle.lists.proofs.Maps.{tabulated_none, tabulated_more, tabulated_all}
+use Rattle.lists.proofs.Maps.{Tabulated, tabulated_none, tabulated_more, tabulated_all}
 use Rattle.ps_memory.specs.Packed.{packed}
 use Rattle.ps_memory.proofs.lines.pack.Goals as goal
 
@@ -27,7 +27,7 @@ loop-i-preserved c =
       omega arith,
       tabulated_more c.loop-i.invariant.2 _
           (c.kept_pair.ensures
-          ∙ ap₂ kept_pair (back w8 (get_or from (2 * c.loop-i.i) (pos 0)) (omega arith)) (back w8 (get_or from (2 * c.loop-i.i + 1) (pos 0)) (omega arith)))
+          ∙ ap₂ kept_pair (back w8 (get_or from (2 * c.loop-i.i) (pos 0)) c.kept_pair-arg-1.given) (back w8 (get_or from (2 * c.loop-i.i + 1) (pos 0)) c.kept_pair-arg-in-loop-i-1.given))
           (omega arith),
     )
 

@@ -1,9 +1,13 @@
-use mathlib.Core.Path.{◌≡◌}
+use mathlib.Core.Path.{◌≡◌, refl, ap₂, ◌∙◌}
 use Prim.Native.Nat.{◌≤◌, ◌-◌, ◌+◌, ◌*◌}
+use native.Mathlib.Omega.{arith}
 use lib.IntN.{pos}
-use lib.ListN.{length, get_or}
+use lib.ListN.{length, get_or, length-set}
+use mir.Syntax.{w8}
 use Rattle.exact_numbers.specs.Numbers.{kept_pair}
-use Rattle.lists.proofs.Maps.{Tabulated}
+use Rattle.integers.proofs.Bits.{back}
+use Rattle.lists.proofs.Maps.{Tabulated, tabulated_none, tabulated_more, tabulated_all}
+use Rattle.ps_memory.specs.Packed.{packed}
 use Rattle.ps_memory.proofs.lines.pack.Given as goal
 
 abbrev pub invariant-loop-i : goal.invariant-loop-i

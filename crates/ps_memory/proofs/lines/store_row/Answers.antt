@@ -1,4 +1,5 @@
 -- `ps_memory::lines::store_row` meets its contract: the packed indices, then the count before them. Assumes nothing.
+use borrow.Author.Rules.{rules}
 use Rattle.ps_memory.proofs.Laid.{row_laid}
 use Rattle.ps_memory.proofs.lines.store_row.Goals as goal
 

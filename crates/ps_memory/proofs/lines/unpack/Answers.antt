@@ -1,13 +1,15 @@
 -- `ps_memory::lines::unpack` meets its contract: after i turns the first 2 i places hold the indices of the first i floats. Assumes nothing.
-use mathlib.Core.Path.{refl, ap₂}
+use mathlib.Core.Path.{◌≡◌, refl, ap₂}
 use mathlib.Core.List.{[], ◌∷◌}
+use Prim.Native.Nat.{◌≤◌, ◌-◌, ◌*◌}
 use native.Mathlib.Omega.{arith}
 use lib.IntN.{ℤ}
-use lib.ListN.{length, length-set}
+use lib.ListN.{length, get_or, length-set}
+use lib.Ieee.{nan}
 use mir.Syntax.{w8}
 use Rattle.integers.proofs.Bits.{via}
-use Rattle.lists.proofs.Rows.{rowed_none, rowed_pair, rowed_all}
-use Rattle.ps_memory.specs.Packed.{unpacked}
+use Rattle.lists.proofs.Rows.{Rowed, rowed_none, rowed_pair, rowed_all}
+use Rattle.ps_memory.specs.Packed.{both, unpacked}
 use Rattle.ps_memory.proofs.lines.unpack.Goals as goal
 
 pub loop-i-init : goal.loop-i-init

@@ -1,9 +1,14 @@
-use mathlib.Core.Path.{◌≡◌}
+use mathlib.Core.Path.{◌≡◌, refl, ap₂}
+use mathlib.Core.List.{[], ◌∷◌}
 use Prim.Native.Nat.{◌≤◌, ◌-◌, ◌*◌}
-use lib.ListN.{length, get_or}
+use native.Mathlib.Omega.{arith}
+use lib.IntN.{ℤ}
+use lib.ListN.{length, get_or, length-set}
 use lib.Ieee.{nan}
-use Rattle.lists.proofs.Rows.{Rowed}
-use Rattle.ps_memory.specs.Packed.{both}
+use mir.Syntax.{w8}
+use Rattle.integers.proofs.Bits.{via}
+use Rattle.lists.proofs.Rows.{Rowed, rowed_none, rowed_pair, rowed_all}
+use Rattle.ps_memory.specs.Packed.{both, unpacked}
 use Rattle.ps_memory.proofs.lines.unpack.Given as goal
 
 abbrev pub invariant-loop-i : goal.invariant-loop-i
