@@ -1,6 +1,6 @@
 -- The rows that a line resolves to, and those kept after it, are rows that memory keeps. Assumes nothing.
 use mathlib.Core.List.{List, [], ◌∷◌, ◌++◌}
-use Prim.Native.Nat.{ℕ, zero, suc, ◌≤◌, ◌<◌, min}
+use Prim.Native.Nat.{ℕ, zero, suc, ◌+◌, ◌≤◌, ◌<◌, min}
 use native.Mathlib.Omega.{arith}
 use lib.Dec.{eqb}
 use lib.IntN.{ℤ, pos}
@@ -24,7 +24,7 @@ use Rattle.ps_rows.specs.declared.Kind.TheVariants.{Coarse, Fine, Coherence, Pha
 use Rattle.ps_rows.specs.declared.Row.{Row}
 use Rattle.ps_rows.specs.declared.ResolvedKind.{ResolvedKind}
 use Rattle.ps_rows.specs.declared.Rows.{Rows}
-use Rattle.ps_rows.specs.Rows.{rows_of, padded_row, padded_rows, start_of, last_of, resolve_kind}
+use Rattle.ps_rows.specs.Rows.{row_of, rows_of, padded_row, padded_rows, start_of, last_of, resolve_kind}
 use Rattle.ps_rows.proofs.Ranges.{lowest, highest, InRange, AllInRange, row_length, rows_in_range, resolved_in_range}
 use Rattle.ps_memory.specs.Shape.{Narrow, RowKept, IndicesKept}
 use Rattle.ps_memory.proofs.Narrow.{either, narrow_none, narrow_append, narrow_take, narrow_zeros}
@@ -57,7 +57,7 @@ rows_short : (kind : Kind) (count : ℕ) (old : List ℤ) (bytes : List ℕ) (n 
 unfolding rows_of
 rows_short kind count old bytes zero e h = omega arith
 rows_short kind count old bytes (suc n) zero h = omega (arith, row_length kind count old bytes)
-rows_short kind count old bytes (suc n) (suc e) h = rows_short kind count _ _ n e h
+rows_short kind count old bytes (suc n) (suc e) h = rows_short kind count (row_of kind count old bytes) (drop (count + 1) bytes) n e h
 
 last_kept : (kept : Row) (rows : List (List ℤ)) → RowKept kept → ((e : ℕ) → Narrow (get_or rows e [])) → ((e : ℕ) → length (get_or rows e []) ≤ 34)
     → RowKept (last_of kept rows)

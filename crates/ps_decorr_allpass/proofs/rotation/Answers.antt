@@ -1,5 +1,5 @@
 -- `ps_decorr_allpass::rotation` meets its contract: a channel past the table's end has its pair past the end too. Assumes nothing.
-use Rattle.std.proofs.Common.{◌≡◌, ℕ, ◌+◌, ◌*◌, ◌≤◌, List, length, get_or, ℤ, pos, ◌∙◌, arith, rules}
+use Rattle.std.proofs.Common.{◌≡◌, ℕ, ◌+◌, ◌*◌, ◌≤◌, List, length, get_or, ℤ, pos, ◌∙◌, arith}
 use lib.ListN.{get_or-eq_default}
 use Rattle.fixed.specs.Real.{pair_at}
 use Rattle.ps_decorr_allpass.proofs.rotation.Goals as goal

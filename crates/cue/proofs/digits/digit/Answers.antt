@@ -5,16 +5,16 @@ use Rattle.cue.proofs.Characters.{inside, below, above}
 use Rattle.cue.proofs.digits.digit.Goals as goal
 
 pub returns-in-48-to-57 : goal.returns-in-48-to-57
-returns-in-48-to-57 c = (rw (inside 48 57 _ c.in-48-to-57.if-c-lt48-own.false c.in-48-to-57.if-c-lt58-own.true), omega arith)
+returns-in-48-to-57 c = (rw (inside 48 57 c.args.c (omega arith) (omega arith)), omega arith)
 
 pub returns-in-97-to-102 : goal.returns-in-97-to-102
-returns-in-97-to-102 c = (rw (above 48 57 _ c.in-97-to-102.if-c-lt58-own.false, inside 97 102 _ c.in-97-to-102.if-c-lt97-own.false c.in-97-to-102.if-c-lt103-own.true), omega arith)
+returns-in-97-to-102 c = (rw (above 48 57 c.args.c (omega arith), inside 97 102 c.args.c (omega arith) (omega arith)), omega arith)
 
 pub returns-in_default : goal.returns-in_default
-returns-in_default c = (rw (below 48 57 _ c.in_default.if-c-lt48-own.true, below 97 102 c.args.c (omega arith)), omega arith)
+returns-in_default c = (rw (below 48 57 c.args.c (omega arith), below 97 102 c.args.c (omega arith)), omega arith)
 
 pub returns-in_default-2 : goal.returns-in_default-2
-returns-in_default-2 c = (rw (above 48 57 _ c.in_default.if-c-lt58-own.false, below 97 102 _ c.in_default.if-c-lt97-own.true), omega arith)
+returns-in_default-2 c = (rw (above 48 57 c.args.c (omega arith), below 97 102 c.args.c (omega arith)), omega arith)
 
 pub returns-in_default-3 : goal.returns-in_default-3
-returns-in_default-3 c = (rw (above 48 57 _ c.in_default.if-c-lt58-own.false, above 97 102 _ c.in_default.if-c-lt103-own.false), omega arith)
+returns-in_default-3 c = (rw (above 48 57 c.args.c (omega arith), above 97 102 c.args.c (omega arith)), omega arith)

@@ -1,0 +1,87 @@
+-- `ps_allpass_channels::desks::enter_four` meets its contract: eight numbers side by side are four channels' samples. Assumes nothing.
+use mathlib.Core.Path.{◌≡◌, refl, ap}
+use mathlib.Core.Bool.{Bool, true, false, cond}
+use mathlib.Core.List.{List}
+use Prim.Native.Nat.{ℕ, ◌+◌, ◌-◌, ◌*◌, ◌/◌, ◌%◌, ◌≤◌, ◌<◌}
+use native.Mathlib.Omega.{arith}
+use borrow.Author.Rules.{rules}
+use borrow.Author.Tests.{eqb-true, eqb-false}
+use lib.Dec.{eqb}
+use lib.Ieee.{Float, nan}
+use lib.ListN.{length, get_or, set, length-set}
+use Rattle.planar.specs.Cells.{cell}
+use Rattle.ps_allpass_channels.specs.DeskNumbers.{sample_number, Put}
+use Rattle.ps_allpass_channels.proofs.DeskRuns.{Run, run_none, run_more, run_put}
+use Rattle.ps_allpass_channels.proofs.desks.enter_four.Goals as goal
+
+module _ (input : List Float) (from g : ℕ) where
+  -- the real parts of four bands, then their imaginary parts
+  abbrev lane_number : ℕ → Float
+  lane_number i = get_or input (from + (2 * (i % 4) + i / 4)) nan
+
+  abbrev sample_of : ℕ → ℕ → Float
+  sample_of k = sample_number (cell 1 input (from + 2 * (k - 4 * g)))
+
+  lane : (i j : ℕ) → i < 4 → 27 ≤ j → j < 29 → (t : Bool) → eqb j 27 ≡ t
+      → lane_number (i + 4 * (j - 27)) ≡ cond t (cell 1 input (from + 2 * (4 * g + i - 4 * g))).re (cell 1 input (from + 2 * (4 * g + i - 4 * g))).im
+  lane i j u lo hi true e =
+      let first : j ≡ 27 = eqb-true j 27 e in
+      ap (λ (p : ℕ). get_or input p nan) (omega (arith, first))
+  lane i j u lo hi false e =
+      let second : j ≡ 28 = omega (arith, eqb-false j 27 e) in
+      ap (λ (p : ℕ). get_or input p nan) (omega (arith, second))
+
+  laid : {old xs : List Float} → Run (136 * g + 108) 8 lane_number old xs → Put (4 * g) (4 * g + 4) 27 (λ j. j < 29) sample_of old xs
+  laid r = run_put g 27 2 r (omega arith) (λ i j u lo hi. lane i j u lo hi (eqb j 27) refl)
+
+  written : (desks : List Float) → g < 13 → length desks ≡ 1768
+      → Run (136 * g + 108) 8 lane_number desks
+      (set (set (set (set (set (set (set (set desks
+      (136 * g + 108) (get_or input from nan))
+      (136 * g + 108 + 1) (get_or input (from + 2) nan))
+      (136 * g + 108 + 2) (get_or input (from + 4) nan))
+      (136 * g + 108 + 3) (get_or input (from + 6) nan))
+      (136 * g + 108 + 4) (get_or input (from + 1) nan))
+      (136 * g + 108 + 5) (get_or input (from + 3) nan))
+      (136 * g + 108 + 6) (get_or input (from + 5) nan))
+      (136 * g + 108 + 7) (get_or input (from + 7) nan))
+  written desks few whole =
+      let at = 136 * g + 108 in
+      run_more 7 (at + 7) (get_or input (from + 7) nan) (omega arith) (omega (arith, whole)) refl
+      (run_more 6 (at + 6) (get_or input (from + 5) nan) (omega arith) (omega (arith, whole)) refl
+      (run_more 5 (at + 5) (get_or input (from + 3) nan) (omega arith) (omega (arith, whole)) refl
+      (run_more 4 (at + 4) (get_or input (from + 1) nan) (omega arith) (omega (arith, whole)) refl
+      (run_more 3 (at + 3) (get_or input (from + 6) nan) (omega arith) (omega (arith, whole)) refl
+      (run_more 2 (at + 2) (get_or input (from + 4) nan) (omega arith) (omega (arith, whole)) refl
+      (run_more 1 (at + 1) (get_or input (from + 2) nan) (omega arith) (omega (arith, whole)) refl
+      (run_more 0 at (get_or input from nan) (omega arith) (omega (arith, whole)) (ap (λ (p : ℕ). get_or input p nan) (omega arith))
+      (run_none at lane_number desks))))))))
+
+pub bounds-desks-at-2 : goal.bounds-desks-at-2
+bounds-desks-at-2 c = simp length-set (omega arith)
+
+pub bounds-desks-at-3 : goal.bounds-desks-at-3
+bounds-desks-at-3 c = simp length-set (omega arith)
+
+pub bounds-desks-at-4 : goal.bounds-desks-at-4
+bounds-desks-at-4 c = simp length-set (omega arith)
+
+pub bounds-desks-at-5 : goal.bounds-desks-at-5
+bounds-desks-at-5 c = simp length-set (omega arith)
+
+pub bounds-desks-at-6 : goal.bounds-desks-at-6
+bounds-desks-at-6 c = simp length-set (omega arith)
+
+pub bounds-desks-at-7 : goal.bounds-desks-at-7
+bounds-desks-at-7 c = simp length-set (omega arith)
+
+pub bounds-desks-at-8 : goal.bounds-desks-at-8
+bounds-desks-at-8 c = simp length-set (omega arith)
+
+pub shape_of-desks : goal.shape_of-desks
+shape_of-desks c = simp length-set refl
+
+pub returns : goal.returns
+returns c =
+    let a = c.args in
+    laid a.input.now a.from a.g (written a.input.now a.from a.g a.desks.now c.requires.1 c.requires.2)

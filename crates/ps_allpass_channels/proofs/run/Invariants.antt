@@ -1,0 +1,40 @@
+use mathlib.Core.Path.{◌≡◌, refl, sym, ◌∙◌}
+use mathlib.Core.List.{List}
+use Prim.Native.Nat.{ℕ, ◌+◌, ◌-◌, ◌≤◌, ◌<◌, min}
+use borrow.Author.Rules.{rules}
+use native.Mathlib.Omega.{arith}
+use lib.IntN.{ℤ}
+use lib.Ieee.{Float}
+use lib.ListN.{length, length-map}
+use Rattle.layout.specs.declared.Layout.{Layout}
+use Rattle.limits.specs.Limits as limits
+use Rattle.ps_allpass_groups.specs.Desk.{chain_on}
+use Rattle.ps_map.specs.Bands.{parameter_map}
+use Rattle.ps_stereo_slots.specs.declared.Timing.{Timing}
+use Rattle.ps_stereo_slots.proofs.Located.{region_within}
+use Rattle.standard.specs.Channel.{chain_from}
+use Rattle.ps_allpass_channels.specs.Desks.{desk_of, Lies, Wayed}
+use Rattle.ps_allpass_channels.specs.Slots.{Reached}
+use Rattle.ps_allpass_channels.proofs.Coefficients.{matrix_is}
+use Rattle.ps_allpass_channels.proofs.Reaching.{none, more, all}
+use Rattle.ps_allpass_channels.proofs.run.Given as goal
+
+pub record Inv (l : Layout) (timing : Timing) (samples gains rows input desks₀ delays₀ left₀ right₀ : List Float) (map : List ℕ) (count end : ℕ)
+    (desks delays left right : List Float) (region n : ℕ) : Type 0 where
+  pub within : n ≤ end
+  pub ends : end ≡ timing.slots
+  pub mapped : map ≡ parameter_map l
+  pub counted : count ≡ min timing.count limits.envelopes
+  pub desks_long : length desks ≡ length desks₀
+  pub delays_long : length delays ≡ length delays₀
+  pub left_long : length left ≡ length left₀
+  pub right_long : length right ≡ length right₀
+  pub begun : region ≤ count → Wayed l rows region (min (region + 1) count) desks
+  pub chains : Lies l chain_on desks (desk_of chain_on desks₀)
+  pub sofar : (table : List ℤ) → Lies l chain_on desks₀ (chain_from table l) → Reached l timing table samples gains rows input delays₀ n left₀ right₀ delays left right
+
+abbrev pub invariant-loop-n : goal.invariant-loop-n
+invariant-loop-n l = Inv l.layout l.timing l.samples l.gains l.rows l.input l.initial.desks l.initial.delays l.initial.left l.initial.right l.map l.count l.n-end l.desks l.delays l.left l.right l.region l.n
+
+abbrev pub decreases-loop-n : goal.decreases-loop-n
+decreases-loop-n l = l.n-end - l.n

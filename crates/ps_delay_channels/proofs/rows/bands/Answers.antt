@@ -1,0 +1,104 @@
+-- `ps_delay_channels::rows::bands` meets its contract: after n turns the run of bands is mixed in the first n slots. Assumes nothing.
+use mathlib.Core.Path.{◌≡◌}
+use mathlib.Core.List.{List}
+use Prim.Native.Nat.{ℕ, ◌+◌, ◌*◌, ◌-◌, ◌%◌, ◌<◌, ◌≤◌}
+use borrow.Author.Rules.{rules}
+use native.Mathlib.Omega.{arith}
+use lib.Ieee.{Float}
+use Rattle.standard.specs.Mixing.{left_of, right_of}
+use Rattle.ps_delay_channels.specs.declared.rows.Delay.{Delay}
+use Rattle.ps_delay_channels.proofs.Bands.{Banding, banding_none, banding_all, banding_kept, banding_came, mixing, width, lent_long, row_room}
+use Rattle.ps_delay_channels.proofs.rows.bands.Goals as goal
+use Rattle.ps_delay_channels.proofs.rows.bands.Goals.{then-n-delay, else-n-delay}
+
+pub loop-n-init : goal.loop-n-init
+loop-n-init c = record { reached = omega arith; lefts = banding_none _ _ _ _ _; rights = banding_none _ _ _ _ _ }
+
+pub weigh-requires : goal.weigh-requires
+weigh-requires c =
+    let a = c.args in
+    let n = c.loop-n.n in
+    let d = a.span.delay in
+    let k = 2 * a.span.count in
+    let at = 128 * n + 2 * a.span.from in
+    let then = 24 * ((d.position + n) % 14) + 2 * (a.span.from - d.first) in record {
+      runs_len = (c.requires.runs_len.0, omega arith);
+      samples_len = (
+        lent_long at k (at + k - at) a.input.now (width at k) (omega arith),
+        lent_long then k (then + k - then) a.before.now (width then k) (row_room n c.requires.frame.1 c.if-n-delay.true),
+        lent_long at k (at + k - at) c.loop-n.left (width at k) (omega (arith, c.loop-n.invariant.lefts.long)),
+        lent_long at k (at + k - at) c.loop-n.right (width at k) (omega (arith, c.loop-n.invariant.rights.long)),
+      );
+    }
+
+pub weigh-requires-else-n-delay : goal.weigh-requires-else-n-delay
+weigh-requires-else-n-delay c =
+    let a = c.args in
+    let n = c.loop-n.n in
+    let k = 2 * a.span.count in
+    let at = 128 * n + 2 * a.span.from in
+    let then = 128 * (n - a.span.delay.slots) + 2 * a.span.from in record {
+      runs_len = (c.requires.runs_len.0, omega arith);
+      samples_len = (
+        lent_long at k (at + k - at) a.input.now (width at k) (omega arith),
+        lent_long then k (then + k - then) a.input.now (width then k) (omega arith),
+        lent_long at k (at + k - at) c.loop-n.left (width at k) (omega (arith, c.loop-n.invariant.lefts.long)),
+        lent_long at k (at + k - at) c.loop-n.right (width at k) (omega (arith, c.loop-n.invariant.rights.long)),
+      );
+    }
+
+pub loop-n-preserved : goal.loop-n-preserved
+loop-n-preserved c =
+    let a = c.args in
+    let n = c.loop-n.n in
+    let d = a.span.delay in
+    let from = a.span.from in
+    let count = a.span.count in
+    let k = 2 * count in
+    let at = 128 * n + 2 * from in
+    let frame = c.requires.frame.0 in
+    let rows = c.requires.frame.1 in
+    let more : n < a.slots = c.loop-n-test.true in
+    elim c.if-n-delay.branch [
+      | then-n-delay w ↦
+          let then = 24 * ((d.position + n) % 14) + 2 * (from - d.first) in
+          record {
+            reached = omega (arith, more);
+            lefts =
+                rw w.left-is
+                (banding_kept left_of a.runs.now a.gains.now a.input.now a.before.now d from count a.slots
+                c.loop-n.invariant.lefts rows frame.left_long more (at + k - at) (then + k - then) (width at k) (width then k)
+                w.weigh.new.left w.weigh.auto.left w.if-n-delay.true w.weigh.ensures.left);
+            rights =
+                rw w.right-is
+                (banding_kept right_of a.runs.now a.gains.now a.input.now a.before.now d from count a.slots
+                c.loop-n.invariant.rights rows frame.right_long more (at + k - at) (then + k - then) (width at k) (width then k)
+                w.weigh.new.right w.weigh.auto.right w.if-n-delay.true w.weigh.ensures.right);
+          }
+      | else-n-delay w ↦
+          let then = 128 * (n - d.slots) + 2 * from in
+          record {
+            reached = omega (arith, more);
+            lefts =
+                rw w.left-is
+                (banding_came left_of a.runs.now a.gains.now a.input.now a.before.now d from count a.slots
+                c.loop-n.invariant.lefts rows frame.left_long more (at + k - at) (then + k - then) (width at k) (width then k)
+                w.weigh-else-n-delay.new.left w.weigh-else-n-delay.auto.left w.if-n-delay.false w.weigh-else-n-delay.ensures.left);
+            rights =
+                rw w.right-is
+                (banding_came right_of a.runs.now a.gains.now a.input.now a.before.now d from count a.slots
+                c.loop-n.invariant.rights rows frame.right_long more (at + k - at) (then + k - then) (width at k) (width then k)
+                w.weigh-else-n-delay.new.right w.weigh-else-n-delay.auto.right w.if-n-delay.false w.weigh-else-n-delay.ensures.right);
+          }
+    ]
+
+pub shape_of-left : goal.shape_of-left
+shape_of-left c = c.loop-n.invariant.lefts.long
+
+pub shape_of-right : goal.shape_of-right
+shape_of-right c = c.loop-n.invariant.rights.long
+
+pub returns : goal.returns
+returns c =
+    let all : c.loop-n.n ≡ c.args.slots = omega (arith, c.loop-n.invariant.reached) in
+    record { left = banding_all c.loop-n.invariant.lefts all; right = banding_all c.loop-n.invariant.rights all }

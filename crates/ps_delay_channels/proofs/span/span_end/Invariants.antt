@@ -1,0 +1,19 @@
+use mathlib.Core.Path.{◌≡◌, ap, ◌∙◌}
+use mathlib.Core.Logic.{◌⊎◌, inl, inr}
+use mathlib.Core.List.{List}
+use Prim.Native.Nat.{ℕ, ◌+◌, ◌-◌, ◌<◌, ◌≤◌}
+use native.Mathlib.Nat.{eq-or-lt_of_le}
+use native.Mathlib.Omega.{arith}
+use borrow.Author.Rules.{rules}
+use lib.ListN.{get_or}
+use Rattle.ps_delay_channels.proofs.span.span_end.Given as goal
+
+-- the channels from k to before `end` are of one stereo band
+abbrev pub Alike : List ℕ → ℕ → ℕ → Type 0
+Alike map k end = (j : ℕ) → k ≤ j → j < end → get_or map j 0 ≡ get_or map k 0
+
+abbrev pub invariant-loop-next : goal.invariant-loop-next
+invariant-loop-next l = Alike l.map l.k l.next × ((l.k < l.next) × (l.next ≤ l.end))
+
+abbrev pub decreases-loop-next : goal.decreases-loop-next
+decreases-loop-next l = l.end - l.next

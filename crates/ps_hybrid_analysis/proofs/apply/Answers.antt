@@ -1,0 +1,42 @@
+-- `ps_hybrid_analysis::apply` meets its contract: the taps are the filter's, and its channel's run is lent and comes back. Assumes nothing.
+use mathlib.Core.Path.{ap, ◌∙◌}
+use Prim.Native.Nat.{◌+◌, ◌-◌, ◌*◌}
+use native.Mathlib.Omega.{arith}
+use borrow.Author.Rules.{rules}
+use lib.ListN.{length}
+use Rattle.planar.specs.Cells.{cell}
+use Rattle.planar.proofs.Cells.{planar_length}
+use Rattle.standard.specs.Hybrid.{tap, filtered}
+use Rattle.ps_hybrid_analysis.proofs.Channels.{width, lent_long, written_added}
+use Rattle.ps_hybrid_analysis.proofs.Spans.{filters_most}
+use Rattle.ps_hybrid_analysis.proofs.Taps.{convolved, filtered_is}
+use Rattle.ps_hybrid_analysis.proofs.apply.Goals as goal
+
+pub taps-requires : goal.taps-requires
+taps-requires c =
+    record { waves_len = c.requires.waves_len; q_bound = (omega (arith, filters_most c.args.prototype), search rules) }
+
+pub channel-k-requires : goal.channel-k-requires
+channel-k-requires c =
+    (c.requires.prototype_value.1.0, rw c.requires.prototype_value.0 at c.requires.prototype_value.1.1)
+
+pub slice_bounds-join-end : goal.slice_bounds-join-end
+slice_bounds-join-end c = omega (arith, c.channel-k.ensures.1)
+
+pub join-requires : goal.join-requires
+join-requires c =
+    let k = c.channel-k.result in
+    record {
+      taps_len = (ap length c.taps.ensures ∙ planar_length 13 (tap c.args.prototype c.args.q), c.requires.band_len.0);
+      run_len = (lent_long k (64 * k + 64 - 64 * k) c.args.samples.now (width _ _) (omega (arith, c.channel-k.ensures.1, c.requires.band_len.1.0)), c.requires.band_len.1.1);
+    }
+
+pub returns : goal.returns
+returns c =
+    let a = c.args in
+    let k = c.channel-k.result in
+    let taps = c.taps.new.out in
+    rw (← c.channel-k.ensures.0)
+    (written_added a.slots k (64 * k + 64 - 64 * k) (λ n. convolved (cell 13 taps) (cell 44 a.band.now) n 13)
+    (filtered a.prototype a.q (cell 44 a.band.now)) a.samples.now c.join.new.run (width _ _) (omega (arith, c.channel-k.ensures.1, c.requires.band_len.1.0))
+    c.requires.band_len.1.1 c.join.ensures (λ n. filtered_is a.prototype a.q taps (cell 44 a.band.now) n c.taps.ensures))

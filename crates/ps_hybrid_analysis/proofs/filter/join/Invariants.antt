@@ -1,0 +1,12 @@
+use Prim.Native.Nat.{◌-◌}
+use Rattle.complex.specs.Operations.{sum}
+use Rattle.planar.specs.Cells.{cell}
+use Rattle.ps_hybrid_analysis.proofs.Runs.{Filling}
+use Rattle.ps_hybrid_analysis.proofs.Taps.{convolved}
+use Rattle.ps_hybrid_analysis.proofs.filter.join.Given as goal
+
+abbrev pub invariant-loop-n : goal.invariant-loop-n
+invariant-loop-n l = Filling 32 l.slots (λ i. sum (cell 32 l.initial.run i) (convolved (cell 13 l.taps) (cell 44 l.band) i 13)) l.initial.run l.run l.n
+
+abbrev pub decreases-loop-n : goal.decreases-loop-n
+decreases-loop-n l = l.slots - l.n

@@ -1,0 +1,60 @@
+-- `ps_stereo_borders::envelopes` meets its contract: each turn writes the next border of every course and moves the phase indices. Assumes nothing.
+use mathlib.Core.Path.{◌≡◌, refl, ◌∙◌}
+use mathlib.Core.List.{List}
+use Prim.Native.Nat.{ℕ, ◌*◌, ◌-◌, ◌≤◌}
+use native.Mathlib.Omega.{arith}
+use borrow.Author.Rules.{rules}
+use lib.Ieee.{Float}
+use lib.IntN.{ℤ}
+use lib.ListN.{length}
+use Rattle.calls.specs.Call.{modes_of}
+use Rattle.cue.specs.declared.Config.{Config}
+use Rattle.cue.specs.declared.Header.{Header}
+use Rattle.layout.specs.declared.Layout.{Layout}
+use Rattle.layout.specs.Numbers.{bands_of}
+use Rattle.limits.specs.Limits as limits
+use Rattle.ps_data.specs.declared.PsIndices.{PsIndices}
+use Rattle.standard.specs.declared.Modes.{Modes}
+use Rattle.ps_stereo_borders.specs.Steps.{Advanced}
+use Rattle.ps_stereo_borders.proofs.Turns.{turn_none, turn_more, turn_all}
+use Rattle.ps_stereo_borders.proofs.envelopes.Goals as goal
+
+pub loop-e-init : goal.loop-e-init
+loop-e-init c =
+    let a = c.args in
+    record {
+      within = omega arith;
+      few = c.requires.0;
+      turn = λ h modes config. turn_none a.layout h a.indices a.directions.now a.phases.now a.rows.now c.requires.1;
+      phases_room = c.requires.1;
+      rows_room = c.requires.2;
+      phases_long = refl;
+      rows_long = refl;
+    }
+
+pub loop-e-preserved : goal.loop-e-preserved
+loop-e-preserved c =
+    let v = c.loop-e.invariant in
+    let phases_long : length c.envelope.new.phases ≡ length c.loop-e.phases = c.phases-1.given in
+    let rows_long : length c.envelope.new.rows ≡ length c.loop-e.rows = c.rows-1.given in
+    record {
+      within = omega (arith, c.loop-e-test.true);
+      few = v.few;
+      turn = λ h modes config.
+          turn_more (v.turn h modes config) (omega (arith, v.few, c.loop-e-test.true)) v.phases_room v.rows_room c.table-coefficients.ensures modes (c.cues-cues.ensures ∙ rw config)
+          c.envelope.ensures.phases c.envelope.ensures.rows;
+      phases_room = rw phases_long v.phases_room;
+      rows_room = rw rows_long v.rows_room;
+      phases_long = phases_long ∙ v.phases_long;
+      rows_long = rows_long ∙ v.rows_long;
+    }
+
+pub shape_of-phases : goal.shape_of-phases
+shape_of-phases c = c.loop-e.invariant.phases_long
+
+pub shape_of-rows : goal.shape_of-rows
+shape_of-rows c = c.loop-e.invariant.rows_long
+
+pub returns : goal.returns
+returns c =
+    turn_all (c.loop-e.invariant.turn c.args.header c.modes_of-modes.ensures refl) c.args.count (omega (arith, c.loop-e.invariant.within, c.loop-e-test.false))
