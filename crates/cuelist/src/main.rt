@@ -4,28 +4,43 @@
 
 mod text;
 
+ghost use Rattle.std.specs.Prelude.{◌≤◌, length};
+
 use cue::Line;
-use libc::{STDERR_FILENO, STDIN_FILENO, STDOUT_FILENO};
 use ps_data::{PsIndices, PsLines};
+use std::io::{ErrorKind, Read, Result};
+use std::process::ExitCode;
 
 // What is carried from line to line: what the lines so far have left, the number of the last line, how many characters the line that has begun has had,
-// and whether all was written so far.
+// whether all was written so far,
+// and whether the output still has a reader.
 #[derive(Clone, Copy)]
 struct Listing {
     lines: PsLines,
     number: u64,
     count: u64,
     written: bool,
+    open: bool,
 }
 
-fn write_line(number: u64, answer: u8, indices: PsIndices) -> bool {
-    let mut out = [0u8; text::LONGEST];
-    let used = text::put_line(&mut out, number, answer, indices);
-    io::write_all(STDOUT_FILENO, &out[..used])
+fn write_line(out: &impl Print, number: u64, answer: u8, indices: PsIndices) -> Result<()> {
+    let mut line = [0u8; text::LONGEST];
+    let used = text::put_line(&mut line, number, answer, indices);
+    out.write_all(&line[..used])
+}
+
+// The listing once a line was written.
+fn noted(before: Listing, written: Result<()>) -> Listing {
+    let mut after = before;
+    if let Err(error) = written {
+        after.written = false;
+        after.open = before.open & (error.kind() != ErrorKind::BrokenPipe);
+    }
+    after
 }
 
 // One line of the input, without its newline.
-fn list_line(before: Listing, line: &[u8]) -> Listing {
+fn list_line(out: &impl Print, before: Listing, line: &[u8]) -> Listing {
     let number = std::num::wrapping_add_u64(before.number, 1);
     let lines = before.lines;
     let got = ps_data::resolve(lines, line);
@@ -33,31 +48,28 @@ fn list_line(before: Listing, line: &[u8]) -> Listing {
     let indices = got.indices;
     let Line::Read(header) = read else {
         let refusal = read.answer();
-        let written = write_line(number, refusal.number(), indices);
+        let written = write_line(out, number, refusal.number(), indices);
         let mut after = before;
         after.number = number;
         after.count = 0;
-        after.written = before.written & written;
-        return after;
+        return noted(after, written);
     };
     let answer = ps_data::read_answer(header, lines.configured);
-    let written = write_line(number, answer.number(), indices);
-    let after = got.lines;
-    Listing {
-        lines: after,
-        number: number,
-        count: 0,
-        written: before.written & written,
-    }
+    let written = write_line(out, number, answer.number(), indices);
+    let mut after = before;
+    after.lines = got.lines;
+    after.number = number;
+    after.count = 0;
+    noted(after, written)
 }
 
 // The line that has begun is complete.
-fn end_line(before: Listing, line: &[u8]) -> Listing {
-    list_line(before, text_lines::held(line, before.count))
+fn end_line(out: &impl Print, before: Listing, line: &[u8]) -> Listing {
+    list_line(out, before, text_lines::held(line, before.count))
 }
 
 // A piece of the input: the lines that end in it, and the beginning of the next.
-fn list_input(before: Listing, line: &mut [u8], input: &[u8]) -> Listing {
+fn list_input(out: &impl Print, before: Listing, line: &mut [u8], input: &[u8]) -> Listing {
     let mut listing = before;
     let mut from = 0;
     while from < input.len() {
@@ -65,46 +77,61 @@ fn list_input(before: Listing, line: &mut [u8], input: &[u8]) -> Listing {
         from = step.next;
         listing.count = step.count;
         if step.ended {
-            listing = end_line(listing, line);
+            listing = end_line(out, listing, line);
         }
     }
     listing
 }
 
-// A program has no exit status: the launcher takes what is said here for a failure.
-fn conclude(written: bool) {
-    if !written {
-        io::write_all(
-            STDERR_FILENO,
-            b"lefasumu: standard output: not all could be written\n",
-        );
+// How many bytes a read brought: none at the input's end, and none where it failed.
+fn read_some(reader: &mut impl Read, bytes: &mut [u8]) -> usize
+    ensures { result ≤ length bytes.new }
+{
+    match reader.read(bytes) {
+        Ok(count) => count,
+        Err(_) => 0,
     }
 }
 
-fn main() {
+// The status of a program that is stopped because nobody reads its output any more.
+const UNREAD: u8 = 141;
+
+// But for that the program has no exit status: the launcher takes what is said here for a failure.
+fn conclude(rt: &impl Eprint, listing: Listing) -> ExitCode {
+    if !listing.open {
+        return ExitCode::from(UNREAD);
+    }
+    if !listing.written {
+        let _ = eprintln!(rt; "lefasumu: standard output: not all could be written");
+    }
+    ExitCode::SUCCESS
+}
+
+fn main(rt: HostRuntime) -> ExitCode {
     // A line of more characters than the longest has is refused whatever they are, so one more than that is all that is held of it.
     let mut line = [0u8; limits::DIGITS + 1];
-    let mut input = io::large_buffer();
+    let mut reader = rt.stdin();
+    let mut input = [0u8; 65536];
     let mut listing = Listing {
         lines: ps_data::fresh(),
         number: 0,
         count: 0,
         written: true,
+        open: true,
     };
     // A proved loop has to end: no input uses up these turns.
-    let mut turns = u64::MAX;
-    while turns > 0 {
-        let got = libc::read(STDIN_FILENO, &mut input);
-        let used = io::count(got, &input);
+    for _ in 0..u64::MAX {
+        let used = read_some(&mut reader, &mut input);
         if used == 0 {
-            turns = 0;
-        } else {
-            listing = list_input(listing, &mut line, &input[..used]);
-            turns -= 1;
+            break;
+        }
+        listing = list_input(&rt, listing, &mut line, &input[..used]);
+        if !listing.open {
+            break;
         }
     }
     if 0 < listing.count {
-        listing = end_line(listing, &line);
+        listing = end_line(&rt, listing, &line);
     }
-    conclude(listing.written);
+    conclude(&rt, listing)
 }

@@ -37,9 +37,19 @@ fn put_number(out: &mut [u8], at: usize, n: u64) -> usize
     requires { at ≤ length out.old }
     ensures { result ≤ length out.old }
 {
+    // The digits, from the last one to the front.
     let mut digits = [0u8; 20];
-    let count = io::decimal(n, &mut digits);
-    put_all(out, at, &digits[..count])
+    let mut first = 20;
+    let mut rest = n;
+    while 0 < first {
+        first -= 1;
+        digits[first] = b'0' + (rest % 10) as u8;
+        rest = rest / 10;
+        if rest == 0 {
+            break;
+        }
+    }
+    put_all(out, at, &digits[first..])
 }
 
 // -1 - index is in range for the lowest index too.

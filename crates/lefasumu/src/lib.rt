@@ -1,4 +1,4 @@
-// The C API: a decoder whose state lies in memory that the caller lends. lefasumu.h says the same in C's words.
+// The C API: a decoder whose state lies in memory that the caller lends. lefasumu.h says the same in C's words; crates/lefasumu_c exports it to C.
 #![tactic(auto)]
 
 ghost use Rattle.std.specs.Prelude.{◌≡◌};
@@ -12,9 +12,8 @@ use answer::Answer;
 // How many numbers the lent memory has.
 pub const MEMORY: usize = ps_memory::NUMBERS;
 
-// The same for C.
-#[unsafe(no_mangle)]
-pub extern "C" fn lefasumu_memory() -> usize
+// The same, as C asks for it.
+pub fn lefasumu_memory() -> usize
     ensures { result ≡ numbers }
 {
     MEMORY
@@ -28,8 +27,7 @@ fn told(answer: Answer) -> u32
 }
 
 // Makes memory that of a fresh decoder, whatever it held. Memory of another length is refused.
-#[unsafe(no_mangle)]
-pub extern "C" fn lefasumu_start(memory: &mut [f64], slots: usize) -> u32
+pub fn lefasumu_start(memory: &mut [f64], slots: usize) -> u32
     ensures { started result memory.new ≡ started_in memory.old slots }
 {
     if memory.len() != MEMORY {
@@ -40,8 +38,7 @@ pub extern "C" fn lefasumu_start(memory: &mut [f64], slots: usize) -> u32
 }
 
 // A frame. The memory is written only after answer 0; its sound is used where it lies.
-#[unsafe(no_mangle)]
-pub extern "C" fn lefasumu_frame(
+pub fn lefasumu_frame(
     memory: &mut [f64],
     line: &[u8],
     input: &[f64],

@@ -4,7 +4,7 @@
 
 ghost use Rattle.std.specs.Prelude.{◌≡◌, ◌*◌, ◌≤◌, length};
 
-use libc::{STDIN_FILENO, STDOUT_FILENO};
+use std::io::Read;
 
 // Whole records that one read brings: 851 records of 77 bytes.
 const PIECE: usize = 65527;
@@ -95,16 +95,43 @@ fn held(piece: &[u8]) -> usize
     count
 }
 
-fn say_number(n: u64) {
-    let mut digits = [0u8; 20];
-    let count = io::decimal(n, &mut digits);
-    io::write_all(STDOUT_FILENO, &digits[..count]);
+fn say(rt: &impl Print, words: &[u8]) {
+    let _ = rt.write_all(words);
+}
+
+fn say_number(rt: &impl Print, n: u64) {
+    let _ = rt.print(n);
+}
+
+// How many bytes a read brought: none at the input's end, and none where it failed.
+fn read_some(reader: &mut impl Read, bytes: &mut [u8]) -> usize
+    ensures { result ≤ length bytes.new }
+{
+    match reader.read(bytes) {
+        Ok(count) => count,
+        Err(_) => 0,
+    }
+}
+
+// Reads until the memory is full, the input ends or a read fails, and answers how many bytes came.
+fn read_full(reader: &mut impl Read, bytes: &mut [u8]) -> usize
+    ensures { result ≤ length bytes.new }
+{
+    let mut done = 0;
+    while done < bytes.len() {
+        let count = read_some(reader, &mut bytes[done..]);
+        if count == 0 {
+            break;
+        }
+        done += count;
+    }
+    done
 }
 
 // The next piece of the input. It is the last where a record of it does not hold or is not whole, and where it is empty.
-fn next() -> Piece {
+fn next(reader: &mut impl Read) -> Piece {
     let mut bytes = [0u8; PIECE];
-    let got = io::read_full(STDIN_FILENO, &mut bytes);
+    let got = read_full(reader, &mut bytes);
     let count = held(&bytes[..got]);
     let whole = count * 77 == got;
     Piece {
@@ -114,36 +141,33 @@ fn next() -> Piece {
     }
 }
 
-fn replay() -> Replayed {
+fn replay(reader: &mut impl Read) -> Replayed {
     let mut replayed = Replayed {
         count: 0,
         whole: true,
     };
     // A proved loop has to end: no input uses up these turns.
-    let mut turns = u64::MAX;
-    while turns > 0 {
-        let read = next();
+    for _ in 0..u64::MAX {
+        let read = next(reader);
         replayed = Replayed {
             count: std::num::wrapping_add_u64(replayed.count, read.held),
             whole: read.whole,
         };
         if read.last {
-            turns = 0;
-        } else {
-            turns -= 1;
+            break;
         }
     }
     replayed
 }
 
-fn main() {
-    let replayed = replay();
-    say_number(replayed.count);
+fn main(rt: HostRuntime) {
+    let replayed = replay(&mut rt.stdin());
+    say_number(&rt, replayed.count);
     if replayed.whole {
-        io::write_all(STDOUT_FILENO, b" rows are mapped as the Rust maps them\n");
+        say(&rt, b" rows are mapped as the Rust maps them\n");
     } else {
-        io::write_all(
-            STDOUT_FILENO,
+        say(
+            &rt,
             b" rows are mapped as the Rust maps them; the next is not, or is cut\n",
         );
     }

@@ -4,24 +4,25 @@ ghost use Rattle.std.specs.Prelude.{◌≡◌, ◌≤◌, length};
 use crate::report;
 use crate::report::Tally;
 use programme::rows;
+use std::env::Env;
+use std::fs::File;
 
 // The places of the outputs' names among the arguments, behind those of the lines and the samples.
 pub const LEFT: usize = 5;
 
 pub const RIGHT: usize = 6;
 
-#[derive(Clone, Copy)]
+#[derive(Drop)]
 pub struct Streams {
-    pub lines: i32,
-    pub samples: i32,
-    pub left: i32,
-    pub right: i32,
+    pub lines: File,
+    pub samples: File,
+    pub left: File,
+    pub right: File,
 }
 
-// What is carried from frame to frame, beside the memory that the decoder's state lies in.
+// What is carried from frame to frame, beside the streams and the memory that the decoder's state lies in.
 #[derive(Clone, Copy)]
 pub struct Run {
-    pub streams: Streams,
     pub asked: usize,
     pub edge: usize,
     pub tally: Tally,
@@ -36,9 +37,8 @@ pub struct Run {
     pub short: bool,
 }
 
-pub fn start(streams: Streams, asked: usize, edge: usize) -> Run {
+pub fn start(asked: usize, edge: usize) -> Run {
     Run {
-        streams: streams,
         asked: asked,
         edge: edge,
         tally: Tally {
@@ -89,18 +89,32 @@ fn call(
 }
 
 // Whether both outputs took a frame's rows.
-fn write_frame(streams: Streams, slots: usize, left: &[f64], right: &[f64]) -> bool
+fn write_frame(
+    rt: &(impl Env + Eprint),
+    streams: &Streams,
+    slots: usize,
+    left: &[f64],
+    right: &[f64],
+) -> bool
     requires { (slots ≤ 32) × (length left.now ≡ 4096) × (length right.now ≡ 4096) }
 {
     let numbers = slots * 128;
-    if rows::write(LEFT, streams.left, &left[..numbers]) {
-        return rows::write(RIGHT, streams.right, &right[..numbers]);
+    if rows::write(rt, LEFT, &streams.left, &left[..numbers]) {
+        return rows::write(rt, RIGHT, &streams.right, &right[..numbers]);
     }
     false
 }
 
 // A frame whose rows are there. A call that is not answered with 0 leaves its outputs as they were, so that silence is written and the outputs keep time.
-fn play_frame(before: Run, memory: &mut [f64], line: &[u8], input: &mut [f64], slots: usize) -> Run
+fn play_frame(
+    rt: &(impl Env + Print + Eprint),
+    streams: &Streams,
+    before: Run,
+    memory: &mut [f64],
+    line: &[u8],
+    input: &mut [f64],
+    slots: usize,
+) -> Run
     requires { (slots ≤ 32) × (length input.old ≡ 4864) }
 {
     let mut left = [0.0; 4096];
@@ -115,11 +129,10 @@ fn play_frame(before: Run, memory: &mut [f64], line: &[u8], input: &mut [f64], s
         &mut right,
     );
     let tally = before.tally;
-    report::frame(tally.frames, answer);
-    let streams = before.streams;
+    report::frame(rt, tally.frames, answer);
     let mut after = before;
     after.tally = report::tallied(tally, answer, holds(line));
-    after.failed = !write_frame(streams, slots, &left, &right);
+    after.failed = !write_frame(rt, streams, slots, &left, &right);
     rows::carry(input, slots);
     after
 }
@@ -136,7 +149,14 @@ fn begun(before: Run, slots: usize) -> Run {
 }
 
 // One cue line, without its newline. `input` begins with the rows that the frame before looked ahead at.
-fn play_line(before: Run, memory: &mut [f64], line: &[u8], input: &mut [f64]) -> Run
+fn play_line(
+    rt: &(impl Env + Print + Eprint),
+    streams: &Streams,
+    before: Run,
+    memory: &mut [f64],
+    line: &[u8],
+    input: &mut [f64],
+) -> Run
     requires { length input.old ≡ 4864 }
 {
     let slots = borders::slots(before.asked);
@@ -145,8 +165,7 @@ fn play_line(before: Run, memory: &mut [f64], line: &[u8], input: &mut [f64]) ->
     if run.failed | run.short {
         return run;
     }
-    let streams = run.streams;
-    let got = rows::fetch(streams.samples, slots, ahead, input);
+    let got = rows::fetch(rt, &streams.samples, slots, ahead, input);
     run.rows = std::num::wrapping_add_u64(run.rows, got.rows as u64);
     if got.failed {
         run.failed = true;
@@ -158,18 +177,34 @@ fn play_line(before: Run, memory: &mut [f64], line: &[u8], input: &mut [f64]) ->
         return run;
     }
     run.ahead = there - slots;
-    play_frame(run, memory, line, input, slots)
+    play_frame(rt, streams, run, memory, line, input, slots)
 }
 
 // The line that has begun is complete.
-pub fn end_line(before: Run, memory: &mut [f64], line: &[u8], input: &mut [f64]) -> Run
+pub fn end_line(
+    rt: &(impl Env + Print + Eprint),
+    streams: &Streams,
+    before: Run,
+    memory: &mut [f64],
+    line: &[u8],
+    input: &mut [f64],
+) -> Run
     requires { length input.old ≡ 4864 }
 {
-    play_line(before, memory, text_lines::held(line, before.count), input)
+    play_line(
+        rt,
+        streams,
+        before,
+        memory,
+        text_lines::held(line, before.count),
+        input,
+    )
 }
 
 // A piece of the file of lines: the lines that end in it, and the beginning of the next.
 pub fn play_piece(
+    rt: &(impl Env + Print + Eprint),
+    streams: &Streams,
     before: Run,
     memory: &mut [f64],
     line: &mut [u8],
@@ -185,7 +220,7 @@ pub fn play_piece(
         from = step.next;
         run.count = step.count;
         if step.ended {
-            run = end_line(run, memory, line, input);
+            run = end_line(rt, streams, run, memory, line, input);
         }
     }
     run

@@ -8,100 +8,102 @@ mod report;
 use frames::{Run, Streams};
 use programme::arguments::Number;
 use programme::{arguments, files};
+use std::env::Env;
+use std::fs::{File, Files};
 
 // Plays the lines to their end.
-fn play(before: Run) -> Run {
+fn play(rt: &(impl Env + Print + Eprint), streams: &Streams, before: Run) -> Run {
     // A line of more characters than the longest has is refused whatever they are, so one more than that is all that is held of it.
     let mut line = [0u8; limits::DIGITS + 1];
     let mut memory = [0.0; lefasumu::MEMORY];
     let mut input = [0.0; 4864];
-    let mut piece = io::large_buffer();
+    let mut piece = [0u8; 65536];
     let mut run = before;
     run.failed = lefasumu::lefasumu_start(&mut memory, run.asked) != 0;
     // A proved loop has to end: no file uses up these turns.
-    let mut turns = u64::MAX;
-    while turns > 0 {
-        let streams = run.streams;
-        let got = files::read_some(files::LINES, streams.lines, &mut piece);
+    for _ in 0..u64::MAX {
+        let got = files::read_some(rt, files::LINES, &streams.lines, &mut piece);
         let used = got.count;
         if used == 0 {
             run.failed = run.failed | got.failed;
-            turns = 0;
-        } else {
-            run = frames::play_piece(run, &mut memory, &mut line, &mut input, &piece[..used]);
-            turns -= 1;
+            break;
         }
+        run = frames::play_piece(
+            rt,
+            streams,
+            run,
+            &mut memory,
+            &mut line,
+            &mut input,
+            &piece[..used],
+        );
     }
     if 0 < run.count {
-        run = frames::end_line(run, &mut memory, &line, &mut input);
+        run = frames::end_line(rt, streams, run, &mut memory, &line, &mut input);
     }
     run
 }
 
 // What failed has been told; the rest is told here. The launcher takes a run without a summary for a failure, since a program has no exit status of its own.
-fn conclude(run: Run) {
+fn conclude(rt: &(impl Env + Print + Eprint), run: Run) {
     if run.failed {
         return;
     }
     if run.short {
-        report::short(run.rows, run.needed);
+        report::short(rt, run.rows, run.needed);
         return;
     }
     let tally = run.tally;
-    report::summary(tally);
+    report::summary(rt, tally);
 }
 
 // The outputs are opened last, so that nothing is lost where there is nothing to play.
-fn open(asked: usize, edge: usize) {
-    let lines = files::open_to_read(files::LINES);
-    if lines < 0 {
+fn open<R: Files<File = File> + Env + Print + Eprint>(rt: &R, asked: usize, edge: usize) {
+    let Some(lines) = files::open_to_read(rt, files::LINES) else {
         return;
-    }
-    let samples = files::open_to_read(files::SAMPLES);
-    if samples < 0 {
+    };
+    let Some(samples) = files::open_to_read(rt, files::SAMPLES) else {
         return;
-    }
-    let left = files::open_to_write(frames::LEFT);
-    if left < 0 {
+    };
+    let Some(left) = files::open_to_write(rt, frames::LEFT) else {
         return;
-    }
-    let right = files::open_to_write(frames::RIGHT);
-    if right < 0 {
+    };
+    let Some(right) = files::open_to_write(rt, frames::RIGHT) else {
         return;
-    }
+    };
     let streams = Streams {
         lines: lines,
         samples: samples,
         left: left,
         right: right,
     };
-    conclude(play(frames::start(streams, asked, edge)));
+    conclude(rt, play(rt, &streams, frames::start(asked, edge)));
 }
 
 // Whether each file has a name, and nothing comes after the names.
-fn all_named() -> bool {
-    arguments::named(files::LINES)
-        & arguments::named(files::SAMPLES)
-        & arguments::named(frames::LEFT)
-        & arguments::named(frames::RIGHT)
-        & (os::arg_count() == 7)
+fn all_named(rt: &impl Env) -> bool {
+    arguments::named(rt, files::LINES)
+        & arguments::named(rt, files::SAMPLES)
+        & arguments::named(rt, frames::LEFT)
+        & arguments::named(rt, frames::RIGHT)
+        & (arguments::count(rt) == 7)
 }
 
 // The launcher has tried the arguments and says how to write them; here one that says nothing is only refused.
-fn main() {
-    let asked = arguments::number_at(1);
-    let edge = arguments::number_at(2);
+fn main(rt: HostRuntime) {
+    let asked = arguments::number_at(&rt, 1);
+    let edge = arguments::number_at(&rt, 2);
     let Number::Given(slots) = asked else {
-        report::misused();
+        report::misused(&rt);
         return;
     };
     let Number::Given(bands) = edge else {
-        report::misused();
+        report::misused(&rt);
         return;
     };
-    if !all_named() {
-        report::misused();
+    if !all_named(&rt) {
+        report::misused(&rt);
         return;
     }
-    open(slots, bands);
+    open(&rt, slots, bands);
 }

@@ -1,5 +1,6 @@
 // What the program says.
-use libc::{STDERR_FILENO, STDOUT_FILENO};
+use programme::{arguments, files};
+use std::env::Env;
 
 // Frames so far: how many of them held what was in force, how many were quiet, and how many were refused.
 #[derive(Clone, Copy)]
@@ -29,69 +30,63 @@ pub fn tallied(before: Tally, answer: u32, held: bool) -> Tally {
     after
 }
 
-fn say(words: &[u8]) {
-    io::write_all(STDOUT_FILENO, words);
+fn say(rt: &impl Print, words: &[u8]) {
+    let _ = rt.write_all(words);
 }
 
-fn say_number(n: u64) {
-    io::print_decimal(STDOUT_FILENO, n);
+fn say_number(rt: &impl Print, n: u64) {
+    let _ = rt.print(n);
 }
 
-fn meaning(answer: u32) {
+fn meaning(rt: &impl Print, answer: u32) {
     match answer {
-        0 => say(b"done\n"),
-        1 => say(b"quiet: an empty line before any configuration\n"),
-        2 => say(b"a character outside 0-9 a-f\n"),
-        3 => say(b"the line's length\n"),
-        4 => say(b"a field out of range\n"),
-        5 => say(b"the buffers' lengths\n"),
-        _ => say(b"a sample not finite, or above 1048576 in magnitude\n"),
+        0 => say(rt, b"done\n"),
+        1 => say(rt, b"quiet: an empty line before any configuration\n"),
+        2 => say(rt, b"a character outside 0-9 a-f\n"),
+        3 => say(rt, b"the line's length\n"),
+        4 => say(rt, b"a field out of range\n"),
+        5 => say(rt, b"the buffers' lengths\n"),
+        _ => say(rt, b"a sample not finite, or above 1048576 in magnitude\n"),
     }
 }
 
 // A frame that was not played: its number, the answer, and what that means.
-pub fn frame(number: u64, answer: u32) {
+pub fn frame(rt: &impl Print, number: u64, answer: u32) {
     if answer == 0 {
         return;
     }
-    say_number(number);
-    say(b" ");
-    say_number(answer as u64);
-    say(b" ");
-    meaning(answer);
+    say_number(rt, number);
+    say(rt, b" ");
+    say_number(rt, answer as u64);
+    say(rt, b" ");
+    meaning(rt, answer);
 }
 
 // The last line of a run that went through.
-pub fn summary(tally: Tally) {
+pub fn summary(rt: &impl Print, tally: Tally) {
     let unplayed = std::num::wrapping_add_u64(tally.quiet, tally.refused);
-    say_number(tally.frames);
-    say(b" frames: ");
-    say_number(std::num::wrapping_sub_u64(tally.frames, unplayed));
-    say(b" played, ");
-    say_number(tally.held);
-    say(b" of them held; ");
-    say_number(tally.quiet);
-    say(b" quiet, ");
-    say_number(tally.refused);
-    say(b" refused\n");
+    say_number(rt, tally.frames);
+    say(rt, b" frames: ");
+    say_number(rt, std::num::wrapping_sub_u64(tally.frames, unplayed));
+    say(rt, b" played, ");
+    say_number(rt, tally.held);
+    say(rt, b" of them held; ");
+    say_number(rt, tally.quiet);
+    say(rt, b" quiet, ");
+    say_number(rt, tally.refused);
+    say(rt, b" refused\n");
 }
 
 // The file of samples ended within a frame's own rows.
-pub fn short(rows: u64, needed: u64) {
-    io::write_all(STDERR_FILENO, b"lefasumu: ");
-    let mut name = io::buffer();
-    let used = os::arg(programme::files::SAMPLES, &mut name);
-    io::write_all(STDERR_FILENO, &name[..used]);
-    io::write_all(STDERR_FILENO, b": too short: it has ");
-    io::print_decimal(STDERR_FILENO, rows);
-    io::write_all(STDERR_FILENO, b" rows, and the lines need ");
-    io::print_decimal(STDERR_FILENO, needed);
-    io::write_all(STDERR_FILENO, b"\n");
+pub fn short(rt: &(impl Env + Eprint), rows: u64, needed: u64) {
+    let mut name = [0u8; arguments::LONGEST];
+    let used = arguments::text_at(rt, files::SAMPLES, &mut name);
+    let name = files::text_of(&name[..used]);
+    let _ = eprintln!(rt;
+        "lefasumu: {name}: too short: it has {rows} rows, and the lines need {needed}"
+    );
 }
 
-pub fn misused() {
-    io::write_all(
-        STDERR_FILENO,
-        b"player: wants SLOTS EDGE LINES SAMPLES LEFT RIGHT\n",
-    );
+pub fn misused(rt: &impl Eprint) {
+    let _ = eprintln!(rt; "player: wants SLOTS EDGE LINES SAMPLES LEFT RIGHT");
 }

@@ -1,5 +1,10 @@
 // Numbers and names among the program's arguments.
-ghost use Rattle.std.specs.Prelude.{◌≤◌};
+ghost use Rattle.std.specs.Prelude.{◌≤◌, length};
+
+use std::env::{Env, FillError};
+
+// The most characters that a name may have.
+pub const LONGEST: usize = 4096;
 
 // Slots act alike from 32 on and the spectrum's edge from 64 on, so a number above this one is read as this one.
 const MOST: usize = 1000000;
@@ -38,14 +43,42 @@ fn number_of(text: &[u8]) -> Number {
     Number::Given(value)
 }
 
-pub fn number_at(place: usize) -> Number {
-    let mut text = io::buffer();
-    let used = os::arg(place, &mut text);
+// Puts an argument at the front of lent memory and answers its length: none where it is missing, or too long for the memory.
+pub fn text_at(rt: &impl Env, place: usize, text: &mut [u8]) -> usize
+    ensures { result ≤ length text.new }
+{
+    match rt.arg(place, text) {
+        Ok(used) => used,
+        Err(_) => 0,
+    }
+}
+
+pub fn number_at(rt: &impl Env, place: usize) -> Number {
+    let mut text = [0u8; LONGEST];
+    let used = text_at(rt, place, &mut text);
     number_of(&text[..used])
 }
 
 // Whether a name is there, has a character, and is no longer than a path may be.
-pub fn named(place: usize) -> bool {
-    let mut name = io::buffer();
-    0 < os::arg(place, &mut name)
+pub fn named(rt: &impl Env, place: usize) -> bool {
+    let mut name = [0u8; LONGEST];
+    0 < text_at(rt, place, &mut name)
+}
+
+fn is_given(rt: &impl Env, place: usize) -> bool {
+    let mut text = [0u8; 1];
+    match rt.arg(place, &mut text) {
+        Ok(_) | Err(FillError::TooLong) => true,
+        Err(FillError::NotPresent) => false,
+    }
+}
+
+// How many arguments there are, the program's own name among them.
+pub fn count(rt: &impl Env) -> usize {
+    for place in 0..usize::MAX {
+        if !is_given(rt, place) {
+            return place;
+        }
+    }
+    usize::MAX
 }

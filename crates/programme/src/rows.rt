@@ -3,6 +3,8 @@ ghost use Rattle.std.specs.Prelude.{◌≡◌, ◌+◌, ◌≤◌, min, length};
 ghost use Rattle.programme.specs.Rows.{carried_rows};
 
 use crate::files;
+use std::env::Env;
+use std::fs::File;
 
 // How many rows came from the file.
 #[derive(Clone, Copy)]
@@ -32,7 +34,8 @@ fn load(bytes: &[u8], rows: usize, from: usize, input: &mut [f64])
 
 // `fetch`, through lent bytes.
 fn fetch_through(
-    file: i32,
+    rt: &(impl Env + Eprint),
+    file: &File,
     slots: usize,
     ahead: usize,
     bytes: &mut [u8],
@@ -42,7 +45,7 @@ fn fetch_through(
     ensures { result.rows + ahead ≤ slots + 6 }
 {
     let wanted = (slots + 6 - ahead) * 1024;
-    let got = files::read_all(files::SAMPLES, file, &mut bytes[..wanted]);
+    let got = files::read_all(rt, files::SAMPLES, file, &mut bytes[..wanted]);
     let rows = got.count / 1024;
     load(bytes, rows, ahead, input);
     Fetched {
@@ -53,7 +56,13 @@ fn fetch_through(
 
 // Reads rows to follow the `ahead` rows, six at most, that `input` begins with, up to the last of a frame's rows ahead; a frame has 32 slots at most. A row
 // that the file's end cuts short does not count. Nothing is read where `input` has not 38 rows.
-pub fn fetch(file: i32, slots: usize, ahead: usize, input: &mut [f64]) -> Fetched
+pub fn fetch(
+    rt: &(impl Env + Eprint),
+    file: &File,
+    slots: usize,
+    ahead: usize,
+    input: &mut [f64],
+) -> Fetched
     ensures { result.rows + min ahead 6 ≤ min slots 32 + 6 }
 {
     if input.len() != 4864 {
@@ -62,8 +71,9 @@ pub fn fetch(file: i32, slots: usize, ahead: usize, input: &mut [f64]) -> Fetche
             failed: true,
         };
     }
-    let mut bytes = io::large_buffer();
+    let mut bytes = [0u8; 65536];
     fetch_through(
+        rt,
         file,
         limits::least(slots, 32),
         limits::least(ahead, 6),
@@ -88,19 +98,25 @@ pub fn carry(input: &mut [f64], slots: usize)
 }
 
 // `write`, through lent bytes.
-fn write_through(place: usize, file: i32, numbers: &[f64], bytes: &mut [u8]) -> bool
+fn write_through(
+    rt: &(impl Env + Eprint),
+    place: usize,
+    file: &File,
+    numbers: &[f64],
+    bytes: &mut [u8],
+) -> bool
     requires { (length numbers.now ≤ 4096) × (length bytes.old ≡ 65536) }
 {
     let used = numbers.len() * 8;
     float_bytes::write_floats(numbers, &mut bytes[..used]);
-    files::write_all(place, file, &bytes[..used])
+    files::write_all(rt, place, file, &bytes[..used])
 }
 
 // Whether the rows of an output, 32 at most, were written.
-pub fn write(place: usize, file: i32, numbers: &[f64]) -> bool {
+pub fn write(rt: &(impl Env + Eprint), place: usize, file: &File, numbers: &[f64]) -> bool {
     if 4096 < numbers.len() {
         return false;
     }
-    let mut bytes = io::large_buffer();
-    write_through(place, file, numbers, &mut bytes)
+    let mut bytes = [0u8; 65536];
+    write_through(rt, place, file, numbers, &mut bytes)
 }

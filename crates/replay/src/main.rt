@@ -8,6 +8,7 @@ mod text;
 
 use run_stream::head::Head;
 use run_stream::input;
+use std::io::Read;
 use text::Place;
 
 // Runs begun, calls of the last of them that agree, and all calls by what they answered.
@@ -88,6 +89,8 @@ fn play_marked(
 }
 
 fn call(
+    rt: &impl Print,
+    reader: &mut impl Read,
     before: Replay,
     memory: &mut [f64],
     head: Head,
@@ -99,7 +102,16 @@ fn call(
 ) -> Replay {
     let counts = before.counts;
     let answer = play_marked(memory, head, line, input, left, right);
-    let going = sides::agrees(place_of(counts), head, answer, bytes, left, right);
+    let going = sides::agrees(
+        rt,
+        reader,
+        place_of(counts),
+        head,
+        answer,
+        bytes,
+        left,
+        right,
+    );
     Replay {
         counts: counted(counts, answer),
         going: going,
@@ -131,35 +143,43 @@ fn begun(before: Replay, memory: &mut [f64], asked: usize) -> Replay {
 }
 
 // The stream ends as it should.
-fn ended(before: Replay) -> Replay {
+fn ended(rt: &impl Print, before: Replay) -> Replay {
     let counts = before.counts;
-    text::summary(counts.runs, counts.accepted, counts.refused, counts.quiet);
+    text::summary(
+        rt,
+        counts.runs,
+        counts.accepted,
+        counts.refused,
+        counts.quiet,
+    );
     let mut after = before;
     after.going = false;
     after
 }
 
-fn broken(before: Replay) -> Replay {
+fn broken(rt: &impl Print, before: Replay) -> Replay {
     let counts = before.counts;
-    text::broken(place_of(counts));
+    text::broken(rt, place_of(counts));
     let mut after = before;
     after.going = false;
     after
 }
 
 // A record that is no call: the end, or the start of a run.
-fn step_between(before: Replay, memory: &mut [f64], head: Head) -> Replay {
+fn step_between(rt: &impl Print, before: Replay, memory: &mut [f64], head: Head) -> Replay {
     if head.kind == 0 {
-        return ended(before);
+        return ended(rt, before);
     }
     if head.kind == 1 {
         return begun(before, memory, head.number);
     }
-    broken(before)
+    broken(rt, before)
 }
 
 // A call with what it hands in, which stands behind its head.
 fn step_call(
+    rt: &impl Print,
+    reader: &mut impl Read,
     before: Replay,
     memory: &mut [f64],
     head: Head,
@@ -170,16 +190,20 @@ fn step_call(
     right: &mut [f64],
 ) -> Replay {
     if !head.fits() {
-        return broken(before);
+        return broken(rt, before);
     }
-    if !input::load(head, line, bytes, input) {
-        return broken(before);
+    if !input::load(reader, head, line, bytes, input) {
+        return broken(rt, before);
     }
-    call(before, memory, head, line, bytes, input, left, right)
+    call(
+        rt, reader, before, memory, head, line, bytes, input, left, right,
+    )
 }
 
 // One record of the stream.
 fn step(
+    rt: &impl Print,
+    reader: &mut impl Read,
     before: Replay,
     memory: &mut [f64],
     line: &mut [u8],
@@ -188,14 +212,17 @@ fn step(
     left: &mut [f64],
     right: &mut [f64],
 ) -> Replay {
-    let head = input::next_head(bytes);
+    let head = input::next_head(reader, bytes);
     if head.kind == 2 {
-        return step_call(before, memory, head, line, bytes, input, left, right);
+        return step_call(
+            rt, reader, before, memory, head, line, bytes, input, left, right,
+        );
     }
-    step_between(before, memory, head)
+    step_between(rt, before, memory, head)
 }
 
-fn main() {
+fn main(rt: HostRuntime) {
+    let mut reader = rt.stdin();
     let mut memory = [0.0; lefasumu::MEMORY];
     let mut line = [0u8; 2048];
     let mut bytes = [0u8; 67584];
@@ -204,9 +231,10 @@ fn main() {
     let mut right = [0.0; 4352];
     let mut replay = started();
     // A proved loop has to end: no input uses up these turns.
-    let mut turns = u64::MAX;
-    while turns > 0 {
+    for _ in 0..u64::MAX {
         replay = step(
+            &rt,
+            &mut reader,
             replay,
             &mut memory,
             &mut line,
@@ -215,10 +243,8 @@ fn main() {
             &mut left,
             &mut right,
         );
-        if replay.going {
-            turns -= 1;
-        } else {
-            turns = 0;
+        if !replay.going {
+            break;
         }
     }
 }

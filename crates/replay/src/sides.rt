@@ -5,6 +5,7 @@ use crate::text;
 use crate::text::Place;
 use run_stream::head::Head;
 use run_stream::{head, input};
+use std::io::Read;
 
 // The pattern at a place of a row, 0 past the end.
 fn bits_at(row: &[f64], at: usize) -> u64 {
@@ -38,11 +39,11 @@ fn marked(side: &[f64]) -> bool {
 }
 
 // Nothing was written to a side.
-fn untouched(at: Place, word: &[u8], side: &[f64]) -> bool {
+fn untouched(rt: &impl Print, at: Place, word: &[u8], side: &[f64]) -> bool {
     if marked(side) {
         return true;
     }
-    text::touched(at, word);
+    text::touched(rt, at, word);
     false
 }
 
@@ -61,31 +62,48 @@ fn differs_at(side: &[f64], count: usize, wanted: &[u8]) -> usize
     count
 }
 
-fn say_difference(at: Place, word: &[u8], side: &[f64], place: usize, wanted: &[u8])
+fn say_difference(
+    rt: &impl Print,
+    at: Place,
+    word: &[u8],
+    side: &[f64],
+    place: usize,
+    wanted: &[u8],
+)
     requires { place ≤ 4352 }
 {
     let bits = bits_at(side, place);
     let other = float_bytes::word_at(wanted, place * 8);
-    text::differs(at, word, place, bits, other);
+    text::differs(rt, at, word, place, bits, other);
 }
 
 // A side is bit for bit as the stream has it.
-fn same(at: Place, word: &[u8], side: &[f64], count: usize, wanted: &mut [u8]) -> bool {
+fn same(
+    rt: &impl Print,
+    reader: &mut impl Read,
+    at: Place,
+    word: &[u8],
+    side: &[f64],
+    count: usize,
+    wanted: &mut [u8],
+) -> bool {
     let numbers = limits::least(count, head::SIDE);
-    if !input::fill(wanted, numbers * 8) {
-        text::broken(at);
+    if !input::fill(reader, wanted, numbers * 8) {
+        text::broken(rt, at);
         return false;
     }
     let place = differs_at(side, numbers, wanted);
     if place == numbers {
         return true;
     }
-    say_difference(at, word, side, place, wanted);
+    say_difference(rt, at, word, side, place, wanted);
     false
 }
 
 // A call left what the stream says.
 pub fn agrees(
+    rt: &impl Print,
+    reader: &mut impl Read,
     at: Place,
     head: Head,
     answer: u32,
@@ -95,11 +113,12 @@ pub fn agrees(
 ) -> bool {
     let wanted = head.answer as u32;
     if answer != wanted {
-        text::answers(at, answer, wanted);
+        text::answers(rt, at, answer, wanted);
         return false;
     }
     if answer != 0 {
-        return untouched(at, b"left", left) && untouched(at, b"right", right);
+        return untouched(rt, at, b"left", left) && untouched(rt, at, b"right", right);
     }
-    same(at, b"left", left, head.left, bytes) && same(at, b"right", right, head.right, bytes)
+    same(rt, reader, at, b"left", left, head.left, bytes)
+        && same(rt, reader, at, b"right", right, head.right, bytes)
 }

@@ -1,16 +1,15 @@
 // What the replay says, a line of standard output at a time.
-use libc::STDOUT_FILENO;
 
-fn say(words: &[u8]) {
-    io::write_all(STDOUT_FILENO, words);
+fn say(rt: &impl Print, words: &[u8]) {
+    let _ = rt.write_all(words);
 }
 
-fn say_number(n: u64) {
-    io::print_decimal(STDOUT_FILENO, n);
+fn say_number(rt: &impl Print, n: u64) {
+    let _ = rt.print(n);
 }
 
-fn say_bits(n: u64) {
-    io::print_hex(STDOUT_FILENO, n, 16);
+fn say_bits(rt: &impl Print, n: u64) {
+    let _ = print!(rt; "{n:016x}");
 }
 
 // A call of the stream: runs, and the frames of a run, count from 0.
@@ -20,65 +19,68 @@ pub struct Place {
     pub frame: u64,
 }
 
-fn say_place(at: Place) {
-    say(b"replay: run ");
-    say_number(at.run);
-    say(b" frame ");
-    say_number(at.frame);
+fn say_place(rt: &impl Print, at: Place) {
+    say(rt, b"replay: run ");
+    say_number(rt, at.run);
+    say(rt, b" frame ");
+    say_number(rt, at.frame);
 }
 
-pub fn broken(at: Place) {
-    say_place(at);
-    say(b": the stream breaks off, or has a record that it cannot have\n");
+pub fn broken(rt: &impl Print, at: Place) {
+    say_place(rt, at);
+    say(
+        rt,
+        b": the stream breaks off, or has a record that it cannot have\n",
+    );
 }
 
-pub fn answers(at: Place, answer: u32, wanted: u32) {
-    say_place(at);
-    say(b": answer ");
-    say_number(answer as u64);
-    say(b", wanted ");
-    say_number(wanted as u64);
-    say(b"\n");
+pub fn answers(rt: &impl Print, at: Place, answer: u32, wanted: u32) {
+    say_place(rt, at);
+    say(rt, b": answer ");
+    say_number(rt, answer as u64);
+    say(rt, b", wanted ");
+    say_number(rt, wanted as u64);
+    say(rt, b"\n");
 }
 
-pub fn touched(at: Place, side: &[u8]) {
-    say_place(at);
-    say(b": not accepted, and yet it wrote to ");
-    say(side);
-    say(b"\n");
+pub fn touched(rt: &impl Print, at: Place, side: &[u8]) {
+    say_place(rt, at);
+    say(rt, b": not accepted, and yet it wrote to ");
+    say(rt, side);
+    say(rt, b"\n");
 }
 
-fn say_sample(side: &[u8], place: usize) {
-    say(b": ");
-    say(side);
-    say(b" slot ");
-    say_number((place / 128) as u64);
-    say(b" band ");
-    say_number((place % 128 / 2) as u64);
+fn say_sample(rt: &impl Print, side: &[u8], place: usize) {
+    say(rt, b": ");
+    say(rt, side);
+    say(rt, b" slot ");
+    say_number(rt, (place / 128) as u64);
+    say(rt, b" band ");
+    say_number(rt, (place % 128 / 2) as u64);
     if place % 2 == 0 {
-        say(b" re ");
+        say(rt, b" re ");
     } else {
-        say(b" im ");
+        say(rt, b" im ");
     }
 }
 
-pub fn differs(at: Place, side: &[u8], place: usize, bits: u64, wanted: u64) {
-    say_place(at);
-    say_sample(side, place);
-    say_bits(bits);
-    say(b", wanted ");
-    say_bits(wanted);
-    say(b"\n");
+pub fn differs(rt: &impl Print, at: Place, side: &[u8], place: usize, bits: u64, wanted: u64) {
+    say_place(rt, at);
+    say_sample(rt, side, place);
+    say_bits(rt, bits);
+    say(rt, b", wanted ");
+    say_bits(rt, wanted);
+    say(rt, b"\n");
 }
 
-pub fn summary(runs: u64, accepted: u64, refused: u64, quiet: u64) {
-    say(b"replay: ");
-    say_number(runs);
-    say(b" runs held: ");
-    say_number(accepted);
-    say(b" frames accepted, ");
-    say_number(refused);
-    say(b" refused, ");
-    say_number(quiet);
-    say(b" quiet\n");
+pub fn summary(rt: &impl Print, runs: u64, accepted: u64, refused: u64, quiet: u64) {
+    say(rt, b"replay: ");
+    say_number(rt, runs);
+    say(rt, b" runs held: ");
+    say_number(rt, accepted);
+    say(rt, b" frames accepted, ");
+    say_number(rt, refused);
+    say(rt, b" refused, ");
+    say_number(rt, quiet);
+    say(rt, b" quiet\n");
 }

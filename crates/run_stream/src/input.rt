@@ -1,23 +1,23 @@
-// What a call hands in: the line's characters and the samples, from standard input.
+// What a call hands in: the line's characters and the samples, from the stream, which `reader` reads.
 ghost use Rattle.std.specs.Prelude.{◌≡◌, true, ◌≤◌, ◌<◌, length};
 
 use crate::head;
 use crate::head::Head;
-use libc::STDIN_FILENO;
+use std::io::Read;
 
 // Reads that many bytes to the front of lent memory. False, and nothing is read, where there is no room for them; false where the input ends before.
-pub fn fill(memory: &mut [u8], count: usize) -> bool
+pub fn fill(reader: &mut impl Read, memory: &mut [u8], count: usize) -> bool
     ensures { result ≡ true → count ≤ length memory.old }
 {
     if memory.len() < count {
         return false;
     }
-    io::read_full(STDIN_FILENO, &mut memory[..count]) == count
+    reader.read_exact(&mut memory[..count]).is_ok()
 }
 
 // The next record's head, of a kind that no record has where the input ends before it.
-pub fn next_head(memory: &mut [u8]) -> Head {
-    let whole = fill(memory, head::SIZE);
+pub fn next_head(reader: &mut impl Read, memory: &mut [u8]) -> Head {
+    let whole = fill(reader, memory, head::SIZE);
     let mut head = head::read(memory);
     if !whole {
         head.kind = 255;
@@ -83,12 +83,18 @@ fn give_all(samples: &mut [f64], given: &[u8], count: usize)
 }
 
 // The line and the samples of a call. False where the input ends before.
-pub fn load(head: Head, line: &mut [u8], bytes: &mut [u8], samples: &mut [f64]) -> bool {
+pub fn load(
+    reader: &mut impl Read,
+    head: Head,
+    line: &mut [u8],
+    bytes: &mut [u8],
+    samples: &mut [f64],
+) -> bool {
     let given = limits::least(head.given, head::INPUT);
-    if !fill(line, head.line) {
+    if !fill(reader, line, head.line) {
         return false;
     }
-    if !fill(bytes, given * 12) {
+    if !fill(reader, bytes, given * 12) {
         return false;
     }
     noise(samples, head);

@@ -1,4 +1,4 @@
-// The stream of runs on standard input (oracle/README.md, "Streams"), record by record: what programs that play it share.
+// The stream of runs (oracle/README.md, "Streams"), record by record: what programs that play it share.
 #![tactic(auto)]
 
 pub mod head;

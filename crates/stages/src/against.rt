@@ -8,6 +8,7 @@ use super::sheet::Wanted;
 use super::stream::Head;
 use super::{carried, compare, play, say, stream};
 use layout::Layout;
+use std::io::Read;
 
 // What is counted, and whether the stream goes on. The lent memory has what is carried from frame to frame.
 #[derive(Clone, Copy)]
@@ -68,6 +69,8 @@ fn lengths_fit(head: Head, layout: Layout, slots: usize) -> bool
 
 // A frame whose samples are there.
 fn compare(
+    rt: &impl Print,
+    reader: &mut impl Read,
     layout: Layout,
     slots: usize,
     edge: usize,
@@ -78,17 +81,23 @@ fn compare(
     requires { (slots ≤ 32) × (length state.old ≡ 4325) }
 {
     let mut numbers = [0.0; play::NUMBERS];
-    if !play::play(line, edge, Wanted::Nothing, input, state, &mut numbers) {
+    if !play::play(rt, line, edge, Wanted::Nothing, input, state, &mut numbers) {
         return stopped(Verdict::Refused);
     }
     Checked {
         layout: layout,
-        found: compare::stages(layout, slots, &numbers),
+        found: compare::stages(reader, layout, slots, &numbers),
     }
 }
 
 // A frame from its samples on. Where the line is of another layout or other slots than the stream's lengths say, the numbers differ.
-fn check_frame(head: Head, line: &[u8], state: &mut [f64]) -> Checked
+fn check_frame(
+    rt: &impl Print,
+    reader: &mut impl Read,
+    head: Head,
+    line: &[u8],
+    state: &mut [f64],
+) -> Checked
     requires { length state.old ≡ 4325 }
 {
     let slots = slots_of(head);
@@ -97,31 +106,37 @@ fn check_frame(head: Head, line: &[u8], state: &mut [f64]) -> Checked
         return stopped(Verdict::Lengths);
     }
     let mut input = [0.0; 4864];
-    if !stream::read_rows(slots + 6, &mut input) {
+    if !stream::read_rows(reader, slots + 6, &mut input) {
         return stopped(Verdict::Cut);
     }
-    compare(layout, slots, head.edge, line, &input, state)
+    compare(rt, reader, layout, slots, head.edge, line, &input, state)
 }
 
-fn check_line(head: Head, line: &mut [u8], state: &mut [f64]) -> Checked
+fn check_line(
+    rt: &impl Print,
+    reader: &mut impl Read,
+    head: Head,
+    line: &mut [u8],
+    state: &mut [f64],
+) -> Checked
     requires { (length line.old ≡ digits) × (length state.old ≡ 4325) }
 {
     let size = head.line;
     if limits::DIGITS < size {
         return stopped(Verdict::Lengths);
     }
-    if !stream::read_first(line, size) {
+    if !stream::read_first(reader, line, size) {
         return stopped(Verdict::Cut);
     }
-    check_frame(head, &line[..size], state)
+    check_frame(rt, reader, head, &line[..size], state)
 }
 
 // The frame after a head.
-fn check(head: Head, state: &mut [f64]) -> Checked
+fn check(rt: &impl Print, reader: &mut impl Read, head: Head, state: &mut [f64]) -> Checked
     requires { length state.old ≡ 4325 }
 {
     let mut line = [0u8; limits::DIGITS];
-    check_line(head, &mut line, state)
+    check_line(rt, reader, head, &mut line, state)
 }
 
 // The counts of 20 bands stand before those of 34.
@@ -167,21 +182,31 @@ fn started(before: Replay, head: Head, state: &mut [f64]) -> Replay
 }
 
 // What is said of a frame that does not hold.
-fn say_verdict(head: Head, checked: Verdict, held: usize) {
+fn say_verdict(rt: &impl Print, head: Head, checked: Verdict, held: usize) {
     match checked {
         Verdict::Same => {}
-        Verdict::Cut => say::broken(head, b"the stream ends in this frame"),
-        Verdict::Lengths => say::broken(head, b"the lengths are not those of its layout and slots"),
-        Verdict::Refused => say::broken(head, b"its cue line is refused"),
-        Verdict::Differs(d) => say::difference(head, held, d),
+        Verdict::Cut => say::broken(rt, head, b"the stream ends in this frame"),
+        Verdict::Lengths => say::broken(
+            rt,
+            head,
+            b"the lengths are not those of its layout and slots",
+        ),
+        Verdict::Refused => say::broken(rt, head, b"its cue line is refused"),
+        Verdict::Differs(d) => say::difference(rt, head, held, d),
     }
 }
 
-fn play_on(before: Replay, head: Head, state: &mut [f64]) -> Replay
+fn play_on(
+    rt: &impl Print,
+    reader: &mut impl Read,
+    before: Replay,
+    head: Head,
+    state: &mut [f64],
+) -> Replay
     requires { length state.old ≡ 4325 }
 {
     let mut replay = started(before, head, state);
-    let checked = check(head, state);
+    let checked = check(rt, reader, head, state);
     let layout = checked.layout;
     let found = checked.found;
     let verdict = found.verdict;
@@ -192,30 +217,30 @@ fn play_on(before: Replay, head: Head, state: &mut [f64]) -> Replay
         replay.frames = std::num::wrapping_add_u64(replay.frames, 1);
         return replay;
     }
-    say_verdict(head, verdict, found.held);
+    say_verdict(rt, head, verdict, found.held);
     replay.going = false;
     replay
 }
 
-fn next(before: Replay, state: &mut [f64]) -> Replay
+fn next(rt: &impl Print, reader: &mut impl Read, before: Replay, state: &mut [f64]) -> Replay
     requires { length state.old ≡ 4325 }
 {
-    let head = stream::next_head();
+    let head = stream::next_head(reader);
     if head.kind == 1 {
-        return play_on(before, head, state);
+        return play_on(rt, reader, before, head, state);
     }
     let mut after = before;
     after.going = false;
     if head.kind == 0 {
-        say::end(after.frames, after.runs);
+        say::end(rt, after.frames, after.runs);
     } else {
-        say::broken(head, b"the stream ends before its end is said");
+        say::broken(rt, head, b"the stream ends before its end is said");
     }
     after
 }
 
 // The whole stream.
-pub fn all() {
+pub fn all(rt: &impl Print, reader: &mut impl Read) {
     let mut state = [0.0; carried::STATE];
     let mut replay = Replay {
         counts: [0u64; 12],
@@ -224,15 +249,12 @@ pub fn all() {
         going: true,
     };
     // A proved loop has to end: no input uses up these turns.
-    let mut turns = u64::MAX;
-    while turns > 0 {
-        replay = next(replay, &mut state);
-        if replay.going {
-            turns -= 1;
-        } else {
-            turns = 0;
+    for _ in 0..u64::MAX {
+        replay = next(rt, reader, replay, &mut state);
+        if !replay.going {
+            break;
         }
     }
     let counts = replay.counts;
-    say::counts(counts);
+    say::counts(rt, counts);
 }

@@ -71,6 +71,7 @@ fn readied(
 
 // The queues made ready for a frame, and kept.
 fn ready_queues(
+    rt: &impl Print,
     small: PsCarried,
     layout: Layout,
     edge: usize,
@@ -81,7 +82,7 @@ fn ready_queues(
     requires { length state.old ≡ 4325 }
 {
     let before = carried::queues_in(small, state);
-    sheet::resets(before, layout, edge, wanted);
+    sheet::resets(rt, before, layout, edge, wanted);
     carried::keep(queue_decorr::ready(before, layout, edge, cued), state);
 }
 
@@ -104,6 +105,7 @@ fn ready(
 
 // What is small in the state, the coefficients and the queues, from before a frame whose line is read to before its slots.
 fn begin_read(
+    rt: &impl Print,
     small: PsCarried,
     header: Header,
     resolved: Resolved,
@@ -116,7 +118,7 @@ fn begin_read(
 {
     let old = small.layout;
     let layout = ps_data::layout_in(old, header);
-    ready_queues(small, layout, edge, header.cued, wanted, state);
+    ready_queues(rt, small, layout, edge, header.cued, wanted, state);
     let positions = resolved.positions;
     let timing = coefficients::timing_of(small.asked, header, positions);
     ready(small, layout, header, resolved, edge, timing, state, runs);
@@ -124,7 +126,14 @@ fn begin_read(
 }
 
 // The beginning of a frame. Nothing moves where its line is not read.
-pub fn begin(line: &[u8], edge: usize, wanted: Wanted, state: &mut [f64], runs: &mut [f64]) -> Begun
+pub fn begin(
+    rt: &impl Print,
+    line: &[u8],
+    edge: usize,
+    wanted: Wanted,
+    state: &mut [f64],
+    runs: &mut [f64],
+) -> Begun
     requires { (length state.old ≡ 4325) × (length runs.old ≡ 8704) }
 {
     let small = ps_memory::load(&state[0..ps_memory::NUMBERS]);
@@ -141,6 +150,6 @@ pub fn begin(line: &[u8], edge: usize, wanted: Wanted, state: &mut [f64], runs: 
     Begun {
         read: true,
         asked: small.asked,
-        slots: begin_read(small, header, resolved, edge, wanted, state, runs),
+        slots: begin_read(rt, small, header, resolved, edge, wanted, state, runs),
     }
 }

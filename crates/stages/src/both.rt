@@ -3,7 +3,6 @@ ghost use Rattle.std.specs.Prelude.{◌≡◌, ◌≤◌, length};
 
 use super::sheet::Wanted;
 use super::{carried, play};
-use libc::STDOUT_FILENO;
 
 // The last answer, and what was compared so far. The lent memories of the decoder and of the queues have the rest.
 #[derive(Clone, Copy)]
@@ -64,6 +63,7 @@ fn compared(before: Both, side: &[f64], written: &[f64]) -> Both
 
 // The queues' frame after an accepted one of the decoder's.
 fn beside(
+    rt: &impl Print,
     before: Both,
     line: &[u8],
     input: &[f64],
@@ -77,7 +77,7 @@ fn beside(
 {
     let mut after = before;
     let mut numbers = [0.0; play::NUMBERS];
-    if !play::play(line, edge, wanted, input, state, &mut numbers) {
+    if !play::play(rt, line, edge, wanted, input, state, &mut numbers) {
         // The decoder has read it.
         after.differing = std::num::wrapping_add_u64(before.differing, 1);
         return after;
@@ -89,6 +89,7 @@ fn beside(
 
 // A call.
 pub fn frame(
+    rt: &impl Print,
     before: Both,
     line: &[u8],
     input: &[f64],
@@ -107,23 +108,20 @@ pub fn frame(
     if answer != 0 {
         return after;
     }
-    beside(after, line, input, edge, wanted, state, left, right)
+    beside(rt, after, line, input, edge, wanted, state, left, right)
 }
 
 // The last line, of all that was compared.
-pub fn conclude(all: Both) {
-    io::write_all(STDOUT_FILENO, b"queues: ");
-    io::print_decimal(STDOUT_FILENO, all.frames);
-    io::write_all(STDOUT_FILENO, b" frames, ");
-    io::print_decimal(STDOUT_FILENO, all.compared);
-    io::write_all(
-        STDOUT_FILENO,
-        b" numbers of left and right compared with the decoder's: ",
-    );
+pub fn conclude(rt: &impl Print, all: Both) {
+    let _ = rt.write_all(b"queues: ");
+    let _ = rt.print(all.frames);
+    let _ = rt.write_all(b" frames, ");
+    let _ = rt.print(all.compared);
+    let _ = rt.write_all(b" numbers of left and right compared with the decoder's: ");
     if all.differing == 0 {
-        io::write_all(STDOUT_FILENO, b"all equal, bit for bit\n");
+        let _ = rt.write_all(b"all equal, bit for bit\n");
     } else {
-        io::print_decimal(STDOUT_FILENO, all.differing);
-        io::write_all(STDOUT_FILENO, b" differ\n");
+        let _ = rt.print(all.differing);
+        let _ = rt.write_all(b" differ\n");
     }
 }

@@ -3,6 +3,7 @@ ghost use Rattle.std.specs.Prelude.{◌≡◌, ◌+◌, ◌*◌, ◌<◌, ◌≤
 
 use super::{play, stream};
 use layout::Layout;
+use std::io::Read;
 
 // The first number of a slot that differs: its place, the Rust's bits and ours.
 #[derive(Clone, Copy)]
@@ -47,10 +48,16 @@ fn first_difference(bytes: &[u8], numbers: &[f64], count: usize) -> usize
     i
 }
 
-fn slot_in(n: usize, numbers: &[f64], count: usize, bytes: &mut [u8]) -> Verdict
+fn slot_in(
+    reader: &mut impl Read,
+    n: usize,
+    numbers: &[f64],
+    count: usize,
+    bytes: &mut [u8],
+) -> Verdict
     requires { (count ≤ 182) × ((count ≤ length numbers.now) × (length bytes.old ≡ 1456)) }
 {
-    if !stream::read_first(bytes, 8 * count) {
+    if !stream::read_first(reader, bytes, 8 * count) {
         return Verdict::Cut;
     }
     let place = first_difference(bytes, numbers, count);
@@ -66,20 +73,27 @@ fn slot_in(n: usize, numbers: &[f64], count: usize, bytes: &mut [u8]) -> Verdict
 }
 
 // The first `count` numbers of a slot, in the stream's order.
-fn slot(n: usize, numbers: &[f64], count: usize) -> Verdict
+fn slot(reader: &mut impl Read, n: usize, numbers: &[f64], count: usize) -> Verdict
     requires { (count ≤ 182) × (count ≤ length numbers.now) }
 {
     let mut bytes = [0u8; 1456];
-    slot_in(n, numbers, count, &mut bytes)
+    slot_in(reader, n, numbers, count, &mut bytes)
 }
 
 // The first `count` numbers of each row, from a place on.
-fn rows(numbers: &[f64], from: usize, row: usize, count: usize, slots: usize) -> Verdict
+fn rows(
+    reader: &mut impl Read,
+    numbers: &[f64],
+    from: usize,
+    row: usize,
+    count: usize,
+    slots: usize,
+) -> Verdict
     requires { (count ≤ row) × ((row ≤ 182) × ((slots ≤ 32) × (from + 32 * row ≤ length numbers.now))) }
 {
     for n in 0..slots {
         let at = from + row * n;
-        let found = slot(n, &numbers[at..at + row], count);
+        let found = slot(reader, n, &numbers[at..at + row], count);
         let Verdict::Same = found else {
             return found;
         };
@@ -88,27 +102,40 @@ fn rows(numbers: &[f64], from: usize, row: usize, count: usize, slots: usize) ->
 }
 
 // A stage by its number: channel by channel re and im, as the Rust has a slot, or QMF rows.
-fn stage(number: usize, channels: usize, slots: usize, numbers: &[f64]) -> Verdict
+fn stage(
+    reader: &mut impl Read,
+    number: usize,
+    channels: usize,
+    slots: usize,
+    numbers: &[f64],
+) -> Verdict
     requires { (channels ≤ 91) × ((slots ≤ 32) × (length numbers.now ≡ 31488)) }
 {
     let hybrid = 2 * channels;
     match number {
-        0 => rows(numbers, play::SAMPLES, play::ROW, hybrid, slots),
-        1 => rows(numbers, play::DECORRELATED, play::ROW, hybrid, slots),
-        2 => rows(numbers, play::LEFTS, play::ROW, hybrid, slots),
-        3 => rows(numbers, play::RIGHTS, play::ROW, hybrid, slots),
-        4 => rows(numbers, play::LEFT, 128, 128, slots),
-        _ => rows(numbers, play::RIGHT, 128, 128, slots),
+        0 => rows(reader, numbers, play::SAMPLES, play::ROW, hybrid, slots),
+        1 => rows(
+            reader,
+            numbers,
+            play::DECORRELATED,
+            play::ROW,
+            hybrid,
+            slots,
+        ),
+        2 => rows(reader, numbers, play::LEFTS, play::ROW, hybrid, slots),
+        3 => rows(reader, numbers, play::RIGHTS, play::ROW, hybrid, slots),
+        4 => rows(reader, numbers, play::LEFT, 128, 128, slots),
+        _ => rows(reader, numbers, play::RIGHT, 128, 128, slots),
     }
 }
 
 // The stages in the stream's order.
-pub fn stages(layout: Layout, slots: usize, numbers: &[f64]) -> Compared
+pub fn stages(reader: &mut impl Read, layout: Layout, slots: usize, numbers: &[f64]) -> Compared
     requires { (slots ≤ 32) × (length numbers.now ≡ 31488) }
 {
     let channels = layout.channels();
     for number in 0..6 {
-        let found = stage(number, channels, slots, numbers);
+        let found = stage(reader, number, channels, slots, numbers);
         let Verdict::Same = found else {
             return Compared {
                 held: number,

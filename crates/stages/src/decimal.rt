@@ -1,8 +1,6 @@
 // A float in decimal, rounded to seven digits for a reader: what is compared goes by bits.
 ghost use Rattle.std.specs.Prelude.{◌≡◌, ◌≤◌, length};
 
-use libc::STDOUT_FILENO;
-
 // A number from 1 to below 10, times a power of ten: its exponent is `up`, or else `down` below 0.
 #[derive(Clone, Copy)]
 struct Scaled {
@@ -56,59 +54,59 @@ fn digits(number: u64, out: &mut [u8]) {
     }
 }
 
-fn say(text: &[u8]) {
-    io::write_all(STDOUT_FILENO, text);
+fn say(rt: &impl Print, text: &[u8]) {
+    let _ = rt.write_all(text);
 }
 
 // Seven digits with their point, and the exponent.
-fn say_scaled(seven: u64, up: u64, down: u64) {
-    io::print_decimal(STDOUT_FILENO, seven / 1000000);
-    say(b".");
+fn say_scaled(rt: &impl Print, seven: u64, up: u64, down: u64) {
+    let _ = rt.print(seven / 1000000);
+    say(rt, b".");
     let mut behind = [0u8; 6];
     digits(seven % 1000000, &mut behind);
-    say(&behind);
+    say(rt, &behind);
     if 0 < down {
-        say(b"e-");
-        io::print_decimal(STDOUT_FILENO, down);
+        say(rt, b"e-");
+        let _ = rt.print(down);
     } else {
-        say(b"e");
-        io::print_decimal(STDOUT_FILENO, up);
+        say(rt, b"e");
+        let _ = rt.print(up);
     }
 }
 
 // Of a finite number above 0. A rounding that reaches ten is 1 with the next exponent.
-fn say_finite(x: f64) {
+fn say_finite(rt: &impl Print, x: f64) {
     let now = scale(x);
     let seven = whole(now.number * 1000000.0 + 0.5);
     if seven < 10000000 {
-        say_scaled(seven, now.up, now.down);
+        say_scaled(rt, seven, now.up, now.down);
     } else {
         if 0 < now.down {
-            say_scaled(1000000, 0, now.down - 1);
+            say_scaled(rt, 1000000, 0, now.down - 1);
         } else {
-            say_scaled(1000000, std::num::wrapping_add_u64(now.up, 1), 0);
+            say_scaled(rt, 1000000, std::num::wrapping_add_u64(now.up, 1), 0);
         }
     }
 }
 
 // Any float.
-pub fn say_float(x: f64) {
+pub fn say_float(rt: &impl Print, x: f64) {
     if x != x {
-        say(b"nan");
+        say(rt, b"nan");
         return;
     }
     let mut size = x;
     if x < 0.0 {
-        say(b"-");
+        say(rt, b"-");
         size = -x;
     }
     if size == 0.0 {
-        say(b"0");
+        say(rt, b"0");
         return;
     }
     if size < 1.0 / 0.0 {
-        say_finite(size);
+        say_finite(rt, size);
     } else {
-        say(b"inf");
+        say(rt, b"inf");
     }
 }

@@ -17,10 +17,12 @@ mod say;
 mod sheet;
 mod stream;
 
-fn main() {
-    match os::arg_count() {
-        0 | 1 => against::all(),
-        2 => runs::all(),
-        _ => lines::all(),
+use programme::arguments;
+
+fn main(rt: HostRuntime) {
+    match arguments::count(&rt) {
+        0 | 1 => against::all(&rt, &mut rt.stdin()),
+        2 => runs::all(&rt, &mut rt.stdin()),
+        _ => lines::all(&rt),
     }
 }

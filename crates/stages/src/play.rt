@@ -99,6 +99,7 @@ fn slot(
 
 // Slot after slot, each told where a sheet is wanted.
 fn slots(
+    rt: &impl Print,
     before: QueueDecorr,
     count: usize,
     wanted: Wanted,
@@ -114,7 +115,7 @@ fn slots(
     for n in 0..count {
         let at = 128 * n;
         queues = slot(queues, n, &split[n..], &input[at..], runs, numbers);
-        sheet::slot(queues, n, wanted, numbers);
+        sheet::slot(rt, queues, n, wanted, numbers);
     }
     queues
 }
@@ -123,6 +124,7 @@ fn slots(
 
 // The split bands and every slot, as far as the input has rows; the history is used where it lies, and the queues are kept.
 fn through(
+    rt: &impl Print,
     queues: QueueDecorr,
     begun: Begun,
     wanted: Wanted,
@@ -144,12 +146,13 @@ fn through(
         &mut split,
     );
     let rows = limits::least(limits::least(begun.slots, 32), input.len() / 128);
-    let after = slots(queues, rows, wanted, &split, input, runs, numbers);
+    let after = slots(rt, queues, rows, wanted, &split, input, runs, numbers);
     carried::keep(after, state);
 }
 
 // A frame: the stages' numbers are written. Answers whether the line was read; nothing moves where it was not.
 pub fn play(
+    rt: &impl Print,
     line: &[u8],
     edge: usize,
     wanted: Wanted,
@@ -160,11 +163,11 @@ pub fn play(
     requires { (length state.old ≡ 4325) × (length numbers.old ≡ 31488) }
 {
     let mut runs = [0.0; 8704];
-    let begun = begin::begin(line, edge, wanted, state, &mut runs);
+    let begun = begin::begin(rt, line, edge, wanted, state, &mut runs);
     if !begun.read {
         return false;
     }
     let queues = carried::queues_now(state);
-    through(queues, begun, wanted, input, state, &runs, numbers);
+    through(rt, queues, begun, wanted, input, state, &runs, numbers);
     true
 }

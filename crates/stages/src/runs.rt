@@ -4,9 +4,9 @@ ghost use Rattle.std.specs.Prelude.{◌≡◌, ◌≤◌, length};
 use super::both::Both;
 use super::sheet::Wanted;
 use super::{both, carried};
-use libc::STDERR_FILENO;
 use run_stream::head::Head;
 use run_stream::{head, input};
+use std::io::Read;
 
 // What is carried from record to record, and whether the stream goes on, has ended, or breaks off.
 #[derive(Clone, Copy)]
@@ -24,11 +24,12 @@ fn stopped(before: Run, whole: bool) -> Run {
 }
 
 // A side of the stream is passed over.
-fn passed(count: usize, bytes: &mut [u8]) -> bool {
-    input::fill(bytes, 8 * limits::least(count, head::SIDE))
+fn passed(reader: &mut impl Read, count: usize, bytes: &mut [u8]) -> bool {
+    input::fill(reader, bytes, 8 * limits::least(count, head::SIDE))
 }
 
 fn play(
+    rt: &impl Print,
     before: Run,
     record: Head,
     line: &[u8],
@@ -47,6 +48,7 @@ fn play(
     let now = before.both;
     let mut after = before;
     after.both = both::frame(
+        rt,
         now,
         &line[..characters],
         &samples[..numbers],
@@ -61,11 +63,11 @@ fn play(
 }
 
 // What an accepted call has behind it, both sides, is passed over.
-fn past_sides(before: Run, record: Head, bytes: &mut [u8]) -> Run {
+fn past_sides(reader: &mut impl Read, before: Run, record: Head, bytes: &mut [u8]) -> Run {
     if record.answer != 0 {
         return before;
     }
-    if passed(record.left, bytes) & passed(record.right, bytes) {
+    if passed(reader, record.left, bytes) & passed(reader, record.right, bytes) {
         return before;
     }
     stopped(before, false)
@@ -73,6 +75,8 @@ fn past_sides(before: Run, record: Head, bytes: &mut [u8]) -> Run {
 
 // A call whose line and samples are there.
 fn play_on(
+    rt: &impl Print,
+    reader: &mut impl Read,
     before: Run,
     record: Head,
     line: &[u8],
@@ -83,12 +87,14 @@ fn play_on(
 ) -> Run
     requires { length state.old ≡ 4325 }
 {
-    let after = play(before, record, line, samples, memory, state);
-    past_sides(after, record, bytes)
+    let after = play(rt, before, record, line, samples, memory, state);
+    past_sides(reader, after, record, bytes)
 }
 
 // A call with what it hands in, which stands behind its head.
 fn call(
+    rt: &impl Print,
+    reader: &mut impl Read,
     before: Run,
     record: Head,
     line: &mut [u8],
@@ -102,13 +108,17 @@ fn call(
     if !record.fits() {
         return stopped(before, false);
     }
-    if !input::load(record, line, bytes, samples) {
+    if !input::load(reader, record, line, bytes, samples) {
         return stopped(before, false);
     }
-    play_on(before, record, line, bytes, samples, memory, state)
+    play_on(
+        rt, reader, before, record, line, bytes, samples, memory, state,
+    )
 }
 
 fn step(
+    rt: &impl Print,
+    reader: &mut impl Read,
     before: Run,
     line: &mut [u8],
     bytes: &mut [u8],
@@ -118,7 +128,7 @@ fn step(
 ) -> Run
     requires { length state.old ≡ 4325 }
 {
-    let record = input::next_head(bytes);
+    let record = input::next_head(reader, bytes);
     let kind = record.kind;
     match kind {
         0 => stopped(before, true),
@@ -128,13 +138,15 @@ fn step(
             after.both = both::started(now, record.number, memory, state);
             after
         }
-        2 => call(before, record, line, bytes, samples, memory, state),
+        2 => call(
+            rt, reader, before, record, line, bytes, samples, memory, state,
+        ),
         _ => stopped(before, false),
     }
 }
 
 // The whole stream.
-pub fn all() {
+pub fn all(rt: &(impl Print + Eprint), reader: &mut impl Read) {
     let mut line = [0u8; head::LINE];
     let mut bytes = [0u8; 67584];
     let mut samples = [0.0; head::INPUT];
@@ -146,9 +158,10 @@ pub fn all() {
         whole: false,
     };
     // A proved loop has to end: no input uses up these turns.
-    let mut turns = u64::MAX;
-    while turns > 0 {
+    for _ in 0..u64::MAX {
         run = step(
+            rt,
+            reader,
             run,
             &mut line,
             &mut bytes,
@@ -156,15 +169,13 @@ pub fn all() {
             &mut memory,
             &mut state,
         );
-        if run.going {
-            turns -= 1;
-        } else {
-            turns = 0;
+        if !run.going {
+            break;
         }
     }
     if run.whole {
-        both::conclude(run.both);
+        both::conclude(rt, run.both);
     } else {
-        io::write_all(STDERR_FILENO, b"lefasumu: the stream breaks off\n");
+        let _ = eprintln!(rt; "lefasumu: the stream breaks off");
     }
 }

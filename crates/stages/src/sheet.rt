@@ -3,7 +3,6 @@ ghost use Rattle.std.specs.Prelude.{◌≡◌, ◌+◌, ◌*◌, ◌<◌, ◌≤
 
 use crate::{decimal, play};
 use layout::{Kind, Layout};
-use libc::STDOUT_FILENO;
 use ps_decorr_transient::Follower;
 use queue_decorr::QueueDecorr;
 
@@ -13,52 +12,52 @@ pub enum Wanted {
     Channel(usize),
 }
 
-fn say(text: &[u8]) {
-    io::write_all(STDOUT_FILENO, text);
+fn say(rt: &impl Print, text: &[u8]) {
+    let _ = rt.write_all(text);
 }
 
-fn say_number(text: &[u8], number: usize) {
-    say(text);
-    io::print_decimal(STDOUT_FILENO, number as u64);
+fn say_number(rt: &impl Print, text: &[u8], number: usize) {
+    say(rt, text);
+    let _ = rt.print(number as u64);
 }
 
-fn say_float(text: &[u8], x: f64) {
-    say(text);
-    decimal::say_float(x);
+fn say_float(rt: &impl Print, text: &[u8], x: f64) {
+    say(rt, text);
+    decimal::say_float(rt, x);
 }
 
 // A complex number.
-fn say_pair(text: &[u8], re: f64, im: f64) {
-    say_float(text, re);
-    say_float(b" ", im);
+fn say_pair(rt: &impl Print, text: &[u8], re: f64, im: f64) {
+    say_float(rt, text, re);
+    say_float(rt, b" ", im);
 }
 
 // A queue of complex numbers, the real parts before the imaginary ones.
-fn say_queue(text: &[u8], queue: &[f64]) {
-    say(text);
+fn say_queue(rt: &impl Print, text: &[u8], queue: &[f64]) {
+    say(rt, text);
     let half = queue.len() / 2;
     for i in 0..half {
         if 0 < i {
-            say(b",");
+            say(rt, b",");
         }
-        say_pair(b" ", queue[i], queue[i + half]);
+        say_pair(rt, b" ", queue[i], queue[i + half]);
     }
-    say(b"\n");
+    say(rt, b"\n");
 }
 
 // A layout's channel k has 28 numbers, or two.
-fn say_queues(layout: Layout, k: usize, numbers: &[f64])
+fn say_queues(rt: &impl Print, layout: Layout, k: usize, numbers: &[f64])
     requires { length numbers.now ≡ 28 }
 {
     match layout.kind(k) {
         Kind::AllPass => {
-            say_queue(b"  x", &numbers[0..4]);
-            say_queue(b"  w3", &numbers[4..10]);
-            say_queue(b"  w4", &numbers[10..18]);
-            say_queue(b"  w5", &numbers[18..28]);
+            say_queue(rt, b"  x", &numbers[0..4]);
+            say_queue(rt, b"  w3", &numbers[4..10]);
+            say_queue(rt, b"  w4", &numbers[10..18]);
+            say_queue(rt, b"  w5", &numbers[18..28]);
         }
-        Kind::Long => say_queue(b"  x14", numbers),
-        Kind::Short => say_queue(b"  x1", &numbers[0..2]),
+        Kind::Long => say_queue(rt, b"  x14", numbers),
+        Kind::Short => say_queue(rt, b"  x1", &numbers[0..2]),
     }
 }
 
@@ -78,7 +77,7 @@ fn power(layout: Layout, b: usize, samples: &[f64]) -> f64
     sum
 }
 
-fn say_detector(layout: Layout, b: usize, detectors: &[f64; 102], samples: &[f64])
+fn say_detector(rt: &impl Print, layout: Layout, b: usize, detectors: &[f64; 102], samples: &[f64])
     requires { (b < 34) × (length samples.now ≡ 182) }
 {
     let now = Follower {
@@ -86,13 +85,13 @@ fn say_detector(layout: Layout, b: usize, detectors: &[f64; 102], samples: &[f64
         smooth: detectors[3 * b + 1],
         difference: detectors[3 * b + 2],
     };
-    say_number(b"  band ", b);
-    say_float(b" power ", power(layout, b, samples));
-    say_float(b" peak ", now.peak);
-    say_float(b" smooth ", now.smooth);
-    say_float(b" difference ", now.difference);
-    say_float(b" factor ", ps_decorr_transient::factor(now));
-    say(b"\n");
+    say_number(rt, b"  band ", b);
+    say_float(rt, b" power ", power(layout, b, samples));
+    say_float(rt, b" peak ", now.peak);
+    say_float(rt, b" smooth ", now.smooth);
+    say_float(rt, b" difference ", now.difference);
+    say_float(rt, b" factor ", ps_decorr_transient::factor(now));
+    say(rt, b"\n");
 }
 
 fn band_of(layout: Layout, k: usize) -> usize
@@ -104,13 +103,14 @@ fn band_of(layout: Layout, k: usize) -> usize
 }
 
 // The detector of channel k's band after slot n.
-fn say_band(state: QueueDecorr, n: usize, k: usize, numbers: &[f64])
+fn say_band(rt: &impl Print, state: QueueDecorr, n: usize, k: usize, numbers: &[f64])
     requires { (n < 32) × ((k < 91) × (length numbers.now ≡ 31488)) }
 {
     let layout = state.layout;
     let detectors = state.detectors;
     let at = play::SAMPLES + play::ROW * n;
     say_detector(
+        rt,
         layout,
         band_of(layout, k),
         &detectors,
@@ -119,29 +119,35 @@ fn say_band(state: QueueDecorr, n: usize, k: usize, numbers: &[f64])
 }
 
 // Slot n of channel k, of a state after it.
-fn say_slot(state: QueueDecorr, n: usize, k: usize, numbers: &[f64])
+fn say_slot(rt: &impl Print, state: QueueDecorr, n: usize, k: usize, numbers: &[f64])
     requires { (n < 32) × ((k < 91) × (length numbers.now ≡ 31488)) }
 {
     let layout = state.layout;
     let samples = play::SAMPLES + play::ROW * n;
     let decorrelated = play::DECORRELATED + play::ROW * n + 2 * k;
-    say_number(b" slot ", n);
+    say_number(rt, b" slot ", n);
     say_pair(
+        rt,
         b"\n  in ",
         numbers[samples + 2 * k],
         numbers[samples + 2 * k + 1],
     );
-    say(b"\n");
+    say(rt, b"\n");
     let mut queues = [0.0; 28];
     queue_decorr::channel_queues(state, k, &mut queues);
-    say_queues(layout, k, &queues);
-    say_band(state, n, k, numbers);
-    say_pair(b"  out ", numbers[decorrelated], numbers[decorrelated + 1]);
-    say(b"\n");
+    say_queues(rt, layout, k, &queues);
+    say_band(rt, state, n, k, numbers);
+    say_pair(
+        rt,
+        b"  out ",
+        numbers[decorrelated],
+        numbers[decorrelated + 1],
+    );
+    say(rt, b"\n");
 }
 
 // A slot, where a channel that the layout has is wanted.
-pub fn slot(state: QueueDecorr, n: usize, wanted: Wanted, numbers: &[f64])
+pub fn slot(rt: &impl Print, state: QueueDecorr, n: usize, wanted: Wanted, numbers: &[f64])
     requires { (n < 32) × (length numbers.now ≡ 31488) }
 {
     let Wanted::Channel(k) = wanted else {
@@ -149,7 +155,7 @@ pub fn slot(state: QueueDecorr, n: usize, wanted: Wanted, numbers: &[f64])
     };
     let layout = state.layout;
     if k < layout.channels() {
-        say_slot(state, n, k, numbers);
+        say_slot(rt, state, n, k, numbers);
     }
 }
 
@@ -163,16 +169,16 @@ fn cleared(state: QueueDecorr, layout: Layout, edge: usize, k: usize) -> bool {
 }
 
 // What is said of a channel before a frame.
-pub fn resets(state: QueueDecorr, layout: Layout, edge: usize, wanted: Wanted) {
+pub fn resets(rt: &impl Print, state: QueueDecorr, layout: Layout, edge: usize, wanted: Wanted) {
     let Wanted::Channel(k) = wanted else {
         return;
     };
     if layout.channels() <= k {
-        say_number(b" the last channel is ", layout.channels() - 1);
-        say(b"\n");
+        say_number(rt, b" the last channel is ", layout.channels() - 1);
+        say(rt, b"\n");
         return;
     }
     if cleared(state, layout, edge, k) {
-        say(b" reset\n");
+        say(rt, b" reset\n");
     }
 }

@@ -1,7 +1,7 @@
 // What `oracle stage-runs` writes, read piece by piece.
 ghost use Rattle.std.specs.Prelude.{◌≡◌, ◌*◌, ◌≤◌, length};
 
-use libc::STDIN_FILENO;
+use std::io::Read;
 
 // What stands before a frame.
 #[derive(Clone, Copy)]
@@ -24,15 +24,14 @@ pub struct Head {
 }
 
 // Whether the stream has as many bytes more as are lent.
-pub fn read(bytes: &mut [u8]) -> bool {
-    let wanted = bytes.len();
-    io::read_full(STDIN_FILENO, bytes) == wanted
+pub fn read(reader: &mut impl Read, bytes: &mut [u8]) -> bool {
+    reader.read_exact(bytes).is_ok()
 }
 
-pub fn read_first(bytes: &mut [u8], count: usize) -> bool
+pub fn read_first(reader: &mut impl Read, bytes: &mut [u8], count: usize) -> bool
     requires { count ≤ length bytes.old }
 {
-    read(&mut bytes[..count])
+    read(reader, &mut bytes[..count])
 }
 
 fn head_of(bytes: &[u8]) -> Head {
@@ -68,31 +67,31 @@ fn no_head() -> Head {
 }
 
 // The next head; of kind 2 where the stream has none.
-pub fn next_head() -> Head {
+pub fn next_head(reader: &mut impl Read) -> Head {
     let mut bytes = [0u8; 48];
-    if !read(&mut bytes) {
+    if !read(reader, &mut bytes) {
         return no_head();
     }
     head_of(&bytes)
 }
 
 // A QMF row of the input.
-fn read_row(row: &mut [f64]) -> bool {
+fn read_row(reader: &mut impl Read, row: &mut [f64]) -> bool {
     let mut bytes = [0u8; 1024];
-    if !read(&mut bytes) {
+    if !read(reader, &mut bytes) {
         return false;
     }
     float_bytes::read_floats(&bytes, row)
 }
 
 // The first rows of the input; false where the stream has not so many.
-pub fn read_rows(count: usize, input: &mut [f64]) -> bool
+pub fn read_rows(reader: &mut impl Read, count: usize, input: &mut [f64]) -> bool
     requires { 128 * count ≤ length input.old }
 {
     let mut whole = true;
     for n in 0..count {
         let at = 128 * n;
-        let got = read_row(&mut input[at..at + 128]);
+        let got = read_row(reader, &mut input[at..at + 128]);
         whole = whole & got;
     }
     whole

@@ -1,0 +1,6 @@
+-- The map has a band below 34 for each channel.
+use Rattle.ps_decorr_transient.proofs.Powers.{band_fits}
+use Rattle.stages.proofs.sheet.band_of.Goals as goal
+
+pub returns : goal.returns
+returns c = band_fits c.args.layout c.parameter_map-map.result c.args.k c.parameter_map-map.ensures
