@@ -8,7 +8,7 @@ use borrow.Author.Tests.{eqb-true}
 use lib.Dec.{eqb}
 use lib.Ieee.{Float}
 use Rattle.answer.specs.Number.{number_of}
-use Rattle.calls.specs.Call.{Call, Playing, Outcome, fresh, answer, layout, head, frame_of, after, rows_of, played}
+use Rattle.calls.specs.Call.{Call, Playing, Outcome, fresh, answer, layout, frame_of, after, rows_of, played}
 use Rattle.calls.specs.Near.{NearCore}
 use Rattle.calls.specs.Run.{carried, frame_at, outcome}
 use Rattle.calls.proofs.Outcomes.{done, refusal, done_played}

@@ -1,5 +1,5 @@
 -- Each turn passes an index.
-use Rattle.std.proofs.Common.{◌≡◌, ◌-◌, ◌≤◌, length}
+use Rattle.std.proofs.Common.{◌-◌, ◌≤◌}
 use Rattle.map_replay.proofs.same.Given as goal
 
 abbrev pub invariant-loop-i : goal.invariant-loop-i

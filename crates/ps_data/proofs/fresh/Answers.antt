@@ -1,5 +1,4 @@
 -- `ps_data::fresh` meets its contract: no configuration, and no rows. Assumes nothing.
-use borrow.Author.Rules.{rules}
 use Rattle.ps_data.proofs.fresh.Goals as goal
 
 pub returns : goal.returns

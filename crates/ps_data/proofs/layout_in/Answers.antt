@@ -1,5 +1,4 @@
 -- `ps_data::layout_in` meets its contract: each branch is the case that the test picks. Assumes nothing.
-use borrow.Author.Rules.{rules}
 use Rattle.ps_data.proofs.layout_in.Goals as goal
 
 pub returns-then-header : goal.returns-then-header

@@ -1,5 +1,4 @@
 -- `ps_data::layout_of` meets its contract: each return is the case of `layout_of` that its tests pick. Assumes nothing.
-use borrow.Author.Rules.{rules}
 use mathlib.Core.Path.{sym, ◌∙◌}
 use Rattle.ps_data.proofs.layout_of.Goals as goal
 

@@ -1,5 +1,4 @@
 -- `ps_data::leave` meets its contract: no indices, and the state as it came. Assumes nothing.
-use borrow.Author.Rules.{rules}
 use Rattle.ps_data.proofs.leave.Goals as goal
 
 pub returns : goal.returns

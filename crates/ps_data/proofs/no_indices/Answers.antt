@@ -1,5 +1,4 @@
 -- `ps_data::no_indices` meets its contract: four times the rows of nothing. Assumes nothing.
-use borrow.Author.Rules.{rules}
 use Rattle.ps_data.proofs.no_indices.Goals as goal
 
 pub returns : goal.returns

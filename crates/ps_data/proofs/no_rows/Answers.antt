@@ -1,5 +1,4 @@
 -- `ps_data::no_rows` meets its contract: four times the row of nothing. Assumes nothing.
-use borrow.Author.Rules.{rules}
 use Rattle.ps_data.proofs.no_rows.Goals as goal
 
 pub returns : goal.returns

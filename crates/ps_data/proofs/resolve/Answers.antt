@@ -1,5 +1,4 @@
 -- `ps_data::resolve` meets its contract: each return is the case of `resolve_line` that the line and its envelopes pick. Assumes nothing.
-use borrow.Author.Rules.{rules}
 use mathlib.Core.Path.{◌≡◌, sym, ap, ap₂, ◌∙◌}
 use mathlib.Core.List.{List}
 use Prim.Native.Nat.{ℕ}

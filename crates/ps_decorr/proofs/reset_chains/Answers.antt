@@ -41,7 +41,7 @@ clear_chains-requires c =
     let layout : Layout = c.args.layout in
     let place : ℕ = c.args.k in
     let roomy : 112 * groups_of layout ≤ length c.args.delays.now = rw c.groups.ensures at c.if-delays-groups.false in
-        let is_chain : place < all_pass_of layout = told layout place c.kind.ensures c.in-AllPass.is in
+    let is_chain : place < all_pass_of layout = told layout place c.kind.ensures c.in-AllPass.is in
     omega (arith, is_chain, c.groups.ensures, roomy, (bounds layout).grouped)
 
 pub returns-in-AllPass : goal.returns-in-AllPass
@@ -49,7 +49,7 @@ returns-in-AllPass c =
     let layout : Layout = c.args.layout in
     let place : ℕ = c.args.k in
     let roomy : 112 * groups_of layout ≤ length c.args.delays.now = rw c.groups.ensures at c.if-delays-groups.false in
-        let is_chain : place < all_pass_of layout = told layout place c.kind.ensures c.in-AllPass.is in
+    let is_chain : place < all_pass_of layout = told layout place c.kind.ensures c.in-AllPass.is in
     c.clear_chains.ensures ∙ chain layout place _ roomy is_chain
 
 pub returns-in-Long : goal.returns-in-Long
@@ -57,11 +57,11 @@ returns-in-Long c =
     let layout : Layout = c.args.layout in
     let place : ℕ = c.args.k in
     let roomy : 112 * groups_of layout ≤ length c.args.delays.now = rw c.groups.ensures at c.if-delays-groups.false in
-        no_chain layout place _ roomy (told layout place c.kind.ensures c.in-Long.is).0
+    no_chain layout place _ roomy (told layout place c.kind.ensures c.in-Long.is).0
 
 pub returns-in-Short : goal.returns-in-Short
 returns-in-Short c =
     let layout : Layout = c.args.layout in
     let place : ℕ = c.args.k in
     let roomy : 112 * groups_of layout ≤ length c.args.delays.now = rw c.groups.ensures at c.if-delays-groups.false in
-        no_chain layout place _ roomy (told layout place c.kind.ensures c.in-Short.is).0
+    no_chain layout place _ roomy (told layout place c.kind.ensures c.in-Short.is).0

@@ -20,8 +20,8 @@ loop-m-preserved c =
     let long = l.invariant.sofar.long in
     let again : Silenced (λ m. m % 4) a.lane a.xs.now (l.m + 1) c.if-lane-m.xs =
     elim c.if-lane-m.branch [
-      then-lane-m w ↦ subst (Silenced (λ m. m % 4) a.lane a.xs.now (l.m + 1)) (sym w.xs-is) (silenced_more l.invariant.sofar _ zero_is (omega arith) w.if-lane-m.true) |
-      else-lane-m w ↦ subst (Silenced (λ m. m % 4) a.lane a.xs.now (l.m + 1)) (sym w.xs-is) (silenced_past l.invariant.sofar (l.m + 1) (λ m a b. omega (arith, w.if-lane-m.false)))
+      | then-lane-m w ↦ subst (Silenced (λ m. m % 4) a.lane a.xs.now (l.m + 1)) (sym w.xs-is) (silenced_more l.invariant.sofar _ zero_is (omega arith) w.if-lane-m.true)
+      | else-lane-m w ↦ subst (Silenced (λ m. m % 4) a.lane a.xs.now (l.m + 1)) (sym w.xs-is) (silenced_past l.invariant.sofar (l.m + 1) (λ m a b. omega (arith, w.if-lane-m.false)))
     ] in
     record { within = omega (arith, again.long); sofar = again }
 

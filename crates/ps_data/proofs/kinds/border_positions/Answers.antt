@@ -1,5 +1,4 @@
 -- `ps_data::kinds::border_positions` meets its contract: where borders are variable, the part lent is that of the definition. Assumes nothing.
-use borrow.Author.Rules.{rules}
 use borrow.Author.Tests.{not-true, not-false}
 use mathlib.Core.Path.{◌≡◌}
 use Prim.Native.Nat.{◌+◌, ◌-◌}

@@ -1,15 +1,12 @@
 -- `ps_data::kinds::copied` meets its contract: after i turns the first i places hold the first i borders. Assumes nothing.
 use mathlib.Core.Path.{◌≡◌, refl, ap, ◌∙◌}
-use mathlib.Core.List.{List}
-use Prim.Native.Nat.{ℕ, ◌-◌, ◌≤◌}
-use borrow.Author.Rules.{rules}
 use native.Mathlib.Omega.{arith}
 use lib.ListN.{length, get_or, replicate}
 use Rattle.limits.specs.Limits as limits
 use Rattle.lists.specs.Padded.{padded}
 use Rattle.lists.specs.Rows.{tabulate}
 use Rattle.lists.proofs.Padded.{padded_written}
-use Rattle.lists.proofs.Maps.{Tabulated, tabulated_none, tabulated_more, copied}
+use Rattle.lists.proofs.Maps.{tabulated_none, tabulated_more, copied}
 use Rattle.ps_data.proofs.kinds.copied.Goals as goal
 
 pub loop-i-init : goal.loop-i-init

@@ -1,5 +1,4 @@
 -- `ps_data::kinds::forget` meets its contract: the rows and the row of nothing. Assumes nothing.
-use borrow.Author.Rules.{rules}
 use Rattle.ps_data.proofs.kinds.forget.Goals as goal
 
 pub returns : goal.returns

@@ -1,13 +1,9 @@
 -- `ps_data::kinds::kind_rows` meets its contract: what is lent of the line is all from the place on, and past the end it is nothing, as in the definition. Assumes nothing.
-use borrow.Author.Rules.{rules}
-use borrow.Author.Tests.{not-true, not-false}
+use borrow.Author.Tests.{not-false}
 use mathlib.Core.Path.{ap, ◌∙◌}
 use Rattle.ps_rows.specs.Rows.{resolve_kind}
 use Rattle.ps_data.proofs.Lent.{lent_from}
 use Rattle.ps_data.proofs.kinds.kind_rows.Goals as goal
-
-pub returns-then-not-block : goal.returns-then-not-block
-returns-then-not-block c = c.forget.ensures ∙ rw (not-true c.args.block.present c.if-not-block.true)
 
 pub returns : goal.returns
 returns c =

@@ -1,5 +1,4 @@
 -- `ps_data::kinds::quantiser` meets its contract: each return is the case of `quantiser_of` that its test picks. Assumes nothing.
-use borrow.Author.Rules.{rules}
 use mathlib.Core.Path.{sym, ◌∙◌}
 use Rattle.ps_data.proofs.kinds.quantiser.Goals as goal
 

@@ -1,5 +1,4 @@
 -- `ps_data::kinds::resolve_rows` meets its contract: each kind's rows and the borders are what their functions ensure. Assumes nothing.
-use borrow.Author.Rules.{rules}
 use mathlib.Core.Path.{◌≡◌, ◌∙◌}
 use mathlib.Core.List.{List}
 use Prim.Native.Nat.{ℕ}

@@ -42,8 +42,12 @@ passed_long sound history detectors delays h d e =
 
 pub slice_bounds-delay_channels-end-2 : goal.slice_bounds-delay_channels-end-2
 slice_bounds-delay_channels-end-2 c =
-    omega (arith, passed_long c.args.sound.now c.analyse-analysed.new.history c.duck.new.detectors c.chains.new.delays
-    c.analyse-analysed.auto.history c.duck.auto.detectors c.chains.auto.delays, c.requires.2)
+    omega (
+      arith,
+      passed_long c.args.sound.now c.analyse-analysed.new.history c.duck.new.detectors c.chains.new.delays
+          c.analyse-analysed.auto.history c.duck.auto.detectors c.chains.auto.delays,
+      c.requires.2,
+    )
 
 pub shape_of-sound : goal.shape_of-sound
 shape_of-sound c =

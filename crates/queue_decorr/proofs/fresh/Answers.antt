@@ -6,15 +6,11 @@ use lib.ListN.{replicate}
 use Rattle.layout.specs.declared.Layout.TheVariants.{Bands20}
 use Rattle.standard.proofs.Literals.{zero_is}
 use Rattle.queue_decorr.specs.declared.QueueDecorr.{QueueDecorr}
-use Rattle.queue_decorr.proofs.fresh.Statement.{statement}
-use Rattle.queue_decorr.proofs.fresh.Tie as tie
+use Rattle.queue_decorr.proofs.fresh.Goals as goal
 
 -- a state that holds one value everywhere
 abbrev filled : Float → QueueDecorr
 filled z = record { layout = Bands20; cued = false; queues = replicate 1794 z; detectors = replicate 102 z }
 
-returns : tie.Need-returns
+pub returns : goal.returns
 returns c = ap filled zero_is
-
-pub fresh_spec : {M : Type 1} → statement M
-fresh_spec = tie.close (tie.spec returns)

@@ -1,0 +1,5 @@
+use Rattle.queue_decorr.proofs.Turns.{Going}
+use Rattle.queue_decorr.proofs.channels.slot.Given as goal
+
+abbrev pub invariant-loop-k : goal.invariant-loop-k
+invariant-loop-k l = Going l.layout l.n l.samples l.gains l.initial.queues l.table l.initial.row l.map l.k-end l.queues l.row l.at l.k
