@@ -74,10 +74,10 @@ module _ (old new : Layout) (other : same_layout old new ≡ false) where
           let inside : i < 34 = omega (arith, (bounds old).bands) in
           tabulate_at f 34 i (whole 0) inside ∙ same i u ∙ sym (tabulate_at g 34 i (whole 0) inside)
 
-  pub remapped_same : (Kept-here kept_there : ℕ → Kept) → ((b : ℕ) → b < bands_of old → Kept-here b ≡ kept_there b)
-      → (b : ℕ) → remapped new Kept-here b ≡ remapped new kept_there b
+  pub remapped_same : (kept_here kept_there : ℕ → Kept) → ((b : ℕ) → b < bands_of old → kept_here b ≡ kept_there b)
+      → (b : ℕ) → remapped new kept_here b ≡ remapped new kept_there b
   unfolding remapped
-  remapped_same Kept-here kept_there same b =
+  remapped_same kept_here kept_there same b =
       rw (
         brought (λ m. m.matrix.h11.re),
         brought (λ m. m.matrix.h11.im),
@@ -89,5 +89,5 @@ module _ (old new : Layout) (other : same_layout old new ≡ false) where
         brought (λ m. m.matrix.h22.im),
       )
     where
-      brought : (number : Kept → Float) → map_coefficients (tabulate (λ j. number (Kept-here j)) 34) new ≡ map_coefficients (tabulate (λ j. number (kept_there j)) 34) new
-      brought number = numbers_same (λ j. number (Kept-here j)) (λ j. number (kept_there j)) (λ j u. ap number (same j u))
+      brought : (number : Kept → Float) → map_coefficients (tabulate (λ j. number (kept_here j)) 34) new ≡ map_coefficients (tabulate (λ j. number (kept_there j)) 34) new
+      brought number = numbers_same (λ j. number (kept_here j)) (λ j. number (kept_there j)) (λ j u. ap number (same j u))

@@ -20,9 +20,9 @@ module _ (l : Layout) (timing : Timing) (input gains rows plain left right : Lis
   fitting = fits l timing input gains rows plain left right
 
   abbrev pub Outcome : List Float → List Float → List Float → Type 0
-  Outcome new-left new-right Plain-then =
+  Outcome new-left new-right plain_then =
       (new-left ≡ left_after l timing input gains rows plain left right)
-      × ((new-right ≡ right_after l timing input gains rows plain left right) × (Plain-then ≡ plain_after l timing input gains rows plain left right))
+      × ((new-right ≡ right_after l timing input gains rows plain left right) × (plain_then ≡ plain_after l timing input gains rows plain left right))
 
   unfit : fitting ≡ false → Outcome left right plain
   unfolding left_after right_after plain_after
@@ -68,10 +68,10 @@ module _ (l : Layout) (timing : Timing) (input gains rows plain left right : Lis
               plain_unfit h = unfit (rw (left_is, right_is, input_is, gains_are, rows_are, ne_eqb (length plain) 394 h))
 
               -- slots that were cut change neither sides nor histories
-              pub fit : length plain ≡ 394 → (new-left new-right Plain-then : List Float)
-                  → Done l (record { borders = timing.borders; count = timing.count; slots = within; turn = timing.turn }) input gains rows plain left right new-left new-right Plain-then
-                  → Outcome new-left new-right Plain-then
+              pub fit : length plain ≡ 394 → (new-left new-right plain_then : List Float)
+                  → Done l (record { borders = timing.borders; count = timing.count; slots = within; turn = timing.turn }) input gains rows plain left right new-left new-right plain_then
+                  → Outcome new-left new-right plain_then
               unfolding left_after right_after plain_after side_rows side_at matrix_then decorrelated past_then
-              fit h new-left new-right Plain-then d =
+              fit h new-left new-right plain_then d =
                   let yes : fitting ≡ true = rw (left_is, right_is, input_is, gains_are, rows_are, eq-eqb (length plain) 394 h) in
                   (rw (yes, ← counted) d.0, (rw (yes, ← counted) d.1.0, rw (yes, ← counted) d.1.1))

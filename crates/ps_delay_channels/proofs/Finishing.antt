@@ -184,10 +184,10 @@ module _ (l : Layout) (timing : Timing) (input gains rows plain : List Float) wh
 
   -- all of it, as the promise says it
   abbrev pub Done : List Float → List Float → List Float → List Float → List Float → Type 0
-  Done left right new-left new-right Plain-then =
+  Done left right new-left new-right plain_then =
       (new-left ≡ side_rows l timing input gains rows plain left_of timing.slots left)
       × ((new-right ≡ side_rows l timing input gains rows plain right_of timing.slots right)
-      × (Plain-then ≡ plain_of (turn + timing.slots) (λ j. pasts (all_pass_of l + j) timing.slots) (λ j. pasts (short_delay_of l + j) timing.slots)))
+      × (plain_then ≡ plain_of (turn + timing.slots) (λ j. pasts (all_pass_of l + j) timing.slots) (λ j. pasts (short_delay_of l + j) timing.slots)))
 
   -- both parts come back
   pub all_done : (left right mid-left mid-right new-left new-right long-then short-then : List Float) → Frame timing.slots input left right → length plain ≡ 394
