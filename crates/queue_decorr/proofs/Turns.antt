@@ -61,7 +61,7 @@ module _ (l : Layout) (n : ℕ) (samples gains old : List Float) where
         pub low : at ≤ 1794
         pub small : size_of l k ≤ 28
         pub samples_room : 2 * k + 1 < length samples
-        pub row_long_lem : length row ≡ 182
+        pub row_long : length row ≡ 182
         pub queues_long : length queues ≡ length old
         pub part_room : at + size_of l k ≤ length queues
         pub band : get_or map k 0 ≡ band_of l k
@@ -76,13 +76,13 @@ module _ (l : Layout) (n : ℕ) (samples gains old : List Float) where
           let r = place_room l k (channels_of l) inside in
           let s = g.lent in
           let long = front_long g.queued.front (omega (arith, r, s.queues_long, g.place)) in
-          let wide = front_long g.written.front (omega (arith, b.channels, s.row_long_lem, inside)) in
+          let wide = front_long g.written.front (omega (arith, b.channels, s.row_long, inside)) in
           record {
             few = omega (arith, b.channels, inside);
             low = omega (arith, g.place, r, place_most l);
             small = size_most l k;
             samples_room = omega (arith, b.channels, inside, s.samples_long);
-            row_long_lem = wide ∙ s.row_long_lem;
+            row_long = wide ∙ s.row_long;
             queues_long = long;
             part_room = omega (arith, long, r, s.queues_long, g.place);
             band = ap (λ (m : List ℕ). get_or m k 0) g.map_is;
@@ -110,7 +110,7 @@ module _ (l : Layout) (n : ℕ) (samples gains old : List Float) where
           let new : ys ≡ new_numbers k = rw was at is in
           let band : get_or map k 0 ≡ band_of l k = ap (λ (m : List ℕ). get_or m k 0) g.map_is in
           let wrote : d ≡ slot_output l n samples gains old k = ducked ∙ rw (out, was, band) in
-          let wide : length row₀ ≡ 182 = g.lent.row_long_lem in
+          let wide : length row₀ ≡ 182 = g.lent.row_long in
           record {
             lent = g.lent;
             map_is = g.map_is;
@@ -127,7 +127,7 @@ module _ (l : Layout) (n : ℕ) (samples gains old : List Float) where
           let b = bounds l in
           let r = place_rises l k (channels_of l) (omega (arith, g.most, g.end_is)) in (
             front_long g.queued.front (omega (arith, r, g.lent.queues_long, g.place)),
-            front_long g.written.front (omega (arith, b.channels, g.lent.row_long_lem, g.most, g.end_is)),
+            front_long g.written.front (omega (arith, b.channels, g.lent.row_long, g.most, g.end_is)),
           )
 
       pub going_all : end ≤ k → SlotDone l n samples gains old row₀ queues row

@@ -53,8 +53,8 @@ module _ (l : Layout) (d : ℕ → ℕ → Complex) (slots : ℕ) (old : List Fl
   abbrev row_at : ℕ → List Float
   row_at n = row_with (channels_of l) (d n) (part (182 * n) 182 old)
 
-  row_long_lem : (n : ℕ) → n < slots → length (row_at n) ≡ 182
-  row_long_lem n u =
+  row_long : (n : ℕ) → n < slots → length (row_at n) ≡ 182
+  row_long n u =
       let long : length (part (182 * n) 182 old) ≡ 182 = part_length (182 * n) 182 old (omega arith) in
       row_length (d n) (channels_of l) (part (182 * n) 182 old) (rw long (omega (arith, (bounds l).channels))) ∙ long
 
@@ -63,9 +63,9 @@ module _ (l : Layout) (d : ℕ → ℕ → Complex) (slots : ℕ) (old : List Fl
   number_at n k j u v w =
       let place : 182 * n + 2 * k + j ≡ n * 182 + (2 * k + j) = omega arith in
       let inside : 2 * k + j < 182 = omega (arith, (bounds l).channels) in
-      get_or-append (rows row_at slots) (drop (182 * slots) old) nan (182 * n + 2 * k + j) (rw (rows_length row_at 182 slots row_long_lem) (omega arith))
+      get_or-append (rows row_at slots) (drop (182 * slots) old) nan (182 * n + 2 * k + j) (rw (rows_length row_at 182 slots row_long) (omega arith))
       ∙ ap (λ (i : ℕ). get_or (rows row_at slots) i nan) place
-      ∙ rows_at row_at 182 slots row_long_lem n (2 * k + j) nan u inside
+      ∙ rows_at row_at 182 slots row_long n (2 * k + j) nan u inside
       ∙ row_at_lem (d n) (channels_of l) (part (182 * n) 182 old) k j v w
 
   pub written_is : (n k : ℕ) → n < slots → k < channels_of l → cell 1 (rows_with l d slots old) (182 * n + 2 * k) ≡ d n k

@@ -20,7 +20,7 @@ module _ (l : Layout) (n : ℕ) where
     pub samples_long : length samples ≡ 182
     pub gains_long : 32 * bands_of l ≤ length gains
     pub queues_long : place_of l (channels_of l) ≤ length queues
-    pub row_long_lem : length row ≡ 182
+    pub row_long : length row ≡ 182
 
   module _ (samples gains queues : List Float) where
     -- each channel a slot later, and its output times the factor of its band

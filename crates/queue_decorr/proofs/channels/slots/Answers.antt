@@ -16,7 +16,7 @@ slot-requires c =
       samples_long = c.samples.auto.row ∙ c.loop-n.invariant.1;
       gains_long = r.lent.gains_long;
       queues_long = rw (queues_kept _ _ _ _ _ _ r) r.lent.queues_long;
-      row_long_lem = row_lent _ _ _ _ _ _ r c.loop-n-test.true;
+      row_long = row_lent _ _ _ _ _ _ r c.loop-n-test.true;
     }
 
 pub loop-n-preserved : goal.loop-n-preserved
