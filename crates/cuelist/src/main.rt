@@ -12,8 +12,7 @@ use std::io::{ErrorKind, Read, Result};
 use std::process::ExitCode;
 
 // What is carried from line to line: what the lines so far have left, the number of the last line, how many characters the line that has begun has had,
-// whether all was written so far,
-// and whether the output still has a reader.
+// whether all was written so far, and whether the output still has a reader.
 #[derive(Clone, Copy)]
 struct Listing {
     lines: PsLines,

@@ -1,5 +1,5 @@
 // Files that the program's arguments name. Each failure is told on standard error with the file's name.
-ghost use Rattle.std.specs.Prelude.{◌≤◌, length};
+ghost use Rattle.std.specs.Prelude.{◌≡◌, ◌≤◌, length, IsUtf8};
 
 use crate::arguments;
 use crate::arguments::LONGEST;
@@ -19,8 +19,10 @@ pub struct Got {
     pub failed: bool,
 }
 
-// The text that bytes are.
-pub fn text_of(bytes: &[u8]) -> &str {
+// The text that bytes are, and words that say so where they are none.
+pub fn text_of(bytes: &[u8]) -> &str
+    ensures { IsUtf8 bytes.now → result.now ≡ bytes.now }
+{
     match std::str::from_utf8(bytes) {
         Ok(text) => text,
         Err(_) => "(no UTF-8 text)",
