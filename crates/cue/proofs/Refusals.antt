@@ -13,14 +13,13 @@ use Rattle.limits.specs.Limits as limits
 use Rattle.lists.specs.First.{before}
 use Rattle.lists.specs.Padded.{padded}
 use Rattle.cue.specs.declared.Cue.{Cue}
-use Rattle.cue.specs.declared.Found.{Found}
-use Rattle.cue.specs.declared.Found.TheVariants.{At, Nothing}
+use Rattle.std.specs.Option.{is_some}
 use Rattle.cue.specs.declared.Line.{Line}
 use Rattle.cue.specs.declared.Line.TheVariants.{Read, Refused}
 use Rattle.cue.specs.Checks.{found, head_checks, body_checks}
 use Rattle.cue.specs.Digits.{is_digit, bytes_of, ragged}
 use Rattle.cue.specs.Fields.{places_of, header_of}
-use Rattle.cue.specs.Line.{in_range, read_bytes, read_line}
+use Rattle.cue.specs.Line.{read_bytes, read_line}
 
 abbrev Sound : Line → Type 0
 Sound (Read h) = Unit
@@ -30,16 +29,12 @@ either : (t : Bool) (x y : Cue) → Sound x.line → Sound y.line → Sound (con
 either true x y p q = p
 either false x y p q = q
 
-ranged : (f : Found) (x : Cue) → Sound x.line → Sound (in_range f x).line
-ranged (At place) x p = λ e. omega arith
-ranged Nothing x p = p
-
 bytes_sound : (digits : ℕ) (bytes : List ℕ) → Sound (read_bytes digits bytes).line
 unfolding read_bytes
 bytes_sound digits bytes =
-    ranged (found bytes head_checks) _
+    either (is_some (found bytes head_checks)) _ _ (λ e. omega arith)
     (either (not (eqb digits (2 * (places_of (header_of bytes)).end))) _ _ (λ e. omega arith)
-    (ranged (found bytes (body_checks (header_of bytes))) _ tt))
+    (either (is_some (found bytes (body_checks (header_of bytes)))) _ _ (λ e. omega arith) tt))
 
 line_sound : (text : List ℕ) → Sound (read_line text).line
 unfolding read_line

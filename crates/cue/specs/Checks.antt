@@ -1,10 +1,8 @@
 -- Document 01, 'The cue line': the bytes of a line that must be in range, in the order in which they are looked at. Assumes nothing.
-use Rattle.std.specs.Prelude.{ℕ, zero, suc, ◌+◌, List, [], ◌∷◌, ◌++◌, Bool, cond, leb}
+use Rattle.std.specs.Prelude.{ℕ, zero, suc, ◌+◌, List, [], ◌∷◌, ◌++◌, Option, Some, None, Bool, cond, leb}
 use Rattle.limits.specs.Limits as limits
 use Rattle.cue.specs.declared.Header.{Header}
 use Rattle.cue.specs.declared.Block.{Block}
-use Rattle.cue.specs.declared.Found.{Found}
-use Rattle.cue.specs.declared.Found.TheVariants.{At, Nothing}
 use Rattle.cue.specs.Fields.{at, borders_size, rows_in, places_of}
 
 -- a byte's place, and what it may be
@@ -16,9 +14,9 @@ abbrev pub up_to : ℕ → ℕ → Check
 up_to most place = record { place = place; fits = λ b. leb b most }
 
 -- the place of the first byte that fails
-unfoldable pub found : List ℕ → List Check → Found
-found bytes [] = Nothing
-found bytes (c ∷ cs) = cond (c.fits (at bytes c.place)) (found bytes cs) (At c.place)
+unfoldable pub found : List ℕ → List Check → Option ℕ
+found bytes [] = None
+found bytes (c ∷ cs) = cond (c.fits (at bytes c.place)) (found bytes cs) (Some c.place)
 
 -- n bytes that stand `apart` bytes apart, the first at a place
 unfoldable pub every : ℕ → ℕ → ℕ → ℕ → List Check

@@ -1,5 +1,5 @@
 -- Document 01, 'The cue line': lower-case hexadecimal, two digits a byte. Assumes nothing.
-use Rattle.std.specs.Prelude.{ℕ, ◌+◌, ◌-◌, ◌*◌, ◌%◌, List, [], ◌∷◌, Bool, cond, ◌&&◌, ◌||◌, leb, ltb, eqb}
+use Rattle.std.specs.Prelude.{ℕ, ◌+◌, ◌-◌, ◌*◌, ◌%◌, List, [], ◌∷◌, Option, Some, None, Bool, cond, ◌&&◌, ◌||◌, leb, ltb, eqb}
 
 abbrev pub between : ℕ → ℕ → ℕ → Bool
 between low high c = leb low c && leb c high
@@ -10,6 +10,10 @@ is_digit c = between 48 57 c || between 97 102 c
 
 abbrev pub digit_of : ℕ → ℕ
 digit_of c = cond (between 48 57 c) (c - 48) (cond (between 97 102 c) (c - 87) 0)
+
+-- the same where another character has none
+abbrev pub digit_in : ℕ → Option ℕ
+digit_in c = cond (is_digit c) (Some (digit_of c)) None
 
 -- two digits a byte
 unfoldable pub bytes_of : List ℕ → List ℕ

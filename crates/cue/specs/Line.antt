@@ -1,5 +1,6 @@
 -- Document 01, 'The cue line': what a line says, or by which answer it is refused, in the order of the refusals. Assumes nothing.
 use Rattle.std.specs.Prelude.{ℕ, ◌*◌, List, false, cond, not, ltb, eqb, length, replicate}
+use Rattle.std.specs.Option.{is_some}
 use Rattle.lists.specs.First.{before}
 use Rattle.lists.specs.Padded.{padded}
 use Rattle.limits.specs.Limits as limits
@@ -9,8 +10,6 @@ use Rattle.cue.specs.declared.Header.{Header}
 use Rattle.cue.specs.declared.Line.{Line}
 use Rattle.cue.specs.declared.Line.TheVariants.{Read, Refused}
 use Rattle.cue.specs.declared.Cue.{Cue}
-use Rattle.cue.specs.declared.Found.{Found}
-use Rattle.cue.specs.declared.Found.TheVariants.{At, Nothing}
 use Rattle.cue.specs.Digits.{is_digit, bytes_of, ragged}
 use Rattle.cue.specs.Fields.{places_of, header_of}
 use Rattle.cue.specs.Checks.{found, head_checks, body_checks}
@@ -39,17 +38,12 @@ cue_of h bytes = record { line = Read h; places = places_of h; bytes = bytes }
 abbrev pub refused : Answer → Cue
 refused answer = record { line = Refused answer; places = places_of no_header; bytes = replicate limits.bytes 0 }
 
--- a byte out of range refuses the line
-abbrev pub in_range : Found → Cue → Cue
-in_range (At place) cue = refused Field
-in_range Nothing cue = cue
-
--- the bytes of a line of so many digits, zeros after them
+-- the bytes of a line of so many digits, zeros after them; a byte out of range refuses the line
 unfoldable pub read_bytes : ℕ → List ℕ → Cue
 read_bytes digits bytes =
-    in_range (found bytes head_checks)
+    cond (is_some (found bytes head_checks)) (refused Field)
     (cond (not (eqb digits (2 * (places_of (header_of bytes)).end))) (refused Length)
-    (in_range (found bytes (body_checks (header_of bytes)))
+    (cond (is_some (found bytes (body_checks (header_of bytes)))) (refused Field)
     (cue_of (header_of bytes) bytes)))
 
 unfoldable pub read_line : List ℕ → Cue

@@ -1,59 +1,54 @@
 // Characters to bytes.
-ghost use Rattle.std.specs.Prelude.{◌≡◌, ◌+◌, ◌*◌, ◌≤◌, ◌<◌, length};
+ghost use Rattle.std.specs.Prelude.{◌≡◌, ◌+◌, ◌*◌, ◌≤◌, ◌<◌, length, not, position, IfSome};
 ghost use Rattle.limits.specs.Limits as limits;
-ghost use Rattle.lists.specs.First.{before};
 ghost use Rattle.lists.specs.Padded.{padded};
-ghost use Rattle.cue.specs.Digits.{is_digit, digit_of, bytes_of, ragged};
+ghost use Rattle.cue.specs.Digits.{is_digit, digit_of, digit_in, bytes_of, ragged};
+
+fn digit(c: u8) -> Option<u8>
+    ensures is { result ≡ digit_in c }
+    ensures small { IfSome result (λ d. d < 16) }
+{
+    match c {
+        b'0'..=b'9' => Some(c - 48),
+        b'a'..=b'f' => Some(c - 87),
+        _ => None,
+    }
+}
 
 fn is_digit(c: u8) -> bool
     ensures { result ≡ is_digit c }
 {
-    match c {
-        b'0'..=b'9' | b'a'..=b'f' => true,
-        _ => false,
-    }
+    digit(c).is_some()
 }
 
-fn digit(c: u8) -> u8
-    ensures { (result ≡ digit_of c) × (result < 16) }
+// The value of a digit, 0 of another character.
+fn value(c: u8) -> u8
+    ensures is { result ≡ digit_of c }
+    ensures small { result < 16 }
 {
-    match c {
-        b'0'..=b'9' => c - 48,
-        b'a'..=b'f' => c - 87,
-        _ => 0,
-    }
+    digit(c).unwrap_or(0)
 }
 
-// The place of the first character that is no digit, or the end.
-pub fn first_other(text: &[u8]) -> usize
-    ensures { result ≡ before is_digit text.now }
+// The place of the first character that is no digit.
+pub fn first_other(text: &[u8]) -> Option<usize>
+    ensures { result ≡ position (λ c. not (is_digit c)) text.now }
 {
-    let mut i = 0;
-    while i < text.len() {
-        if !is_digit(text[i]) {
-            return i;
-        }
-        i += 1;
-    }
-    i
+    text.iter().position(|c| !is_digit(*c))
 }
 
 fn byte(high: u8, low: u8) -> u8
     ensures { result ≡ digit_of high * 16 + digit_of low }
 {
-    digit(high) * 16 + digit(low)
+    value(high) * 16 + value(low)
 }
 
 pub fn bytes(text: &[u8]) -> [u8; limits::BYTES]
     requires { length text.now ≤ limits.digits }
     ensures { result ≡ padded limits.bytes 0 (bytes_of text.now) }
 {
-    let mut out = [0u8; limits::BYTES];
-    let count = text.len() / 2;
-    let mut i = 0;
-    while i < count {
+    let mut out = [0; limits::BYTES];
+    for i in 0..text.len() / 2 {
         out[i] = byte(text[2 * i], text[2 * i + 1]);
-        i += 1;
     }
     out
 }
@@ -62,11 +57,5 @@ pub fn bytes(text: &[u8]) -> [u8; limits::BYTES]
 pub fn is_ragged(digits: usize) -> bool
     ensures { result ≡ ragged digits }
 {
-    if digits % 2 == 1 {
-        return true;
-    }
-    if digits == 0 {
-        return false;
-    }
-    digits < 8
+    digits % 2 == 1 || (0 < digits && digits < 8)
 }

@@ -68,13 +68,6 @@ pub struct Cue {
     pub bytes: [u8; limits::BYTES],
 }
 
-// The place of the first byte that is out of range.
-#[derive(Clone, Copy)]
-enum Found {
-    At(usize),
-    Nothing,
-}
-
 impl Line {
     pub fn answer(self) -> Answer
         ensures { result ≡ answer_of self }
@@ -136,13 +129,12 @@ fn no_header() -> Header
         present: false,
         mode: 0,
     };
-    let config = Config {
-        iid: absent,
-        icc: absent,
-    };
     Header {
         cued: false,
-        config: config,
+        config: Config {
+            iid: absent,
+            icc: absent,
+        },
         variable: false,
         phase: false,
         envelopes: 0,
@@ -155,7 +147,7 @@ fn refuse(answer: Answer) -> Cue
     Cue {
         line: Line::Refused(answer),
         places: fields::places(no_header()),
-        bytes: [0u8; limits::BYTES],
+        bytes: [0; limits::BYTES],
     }
 }
 
@@ -166,33 +158,35 @@ fn no_cue() -> Cue
     Cue {
         line: Line::Read(header),
         places: fields::places(header),
-        bytes: [0u8; limits::BYTES],
+        bytes: [0; limits::BYTES],
     }
 }
 
 // The fields of a line of so many digits.
+#[tactic(auto, unfolding(crate::specs::Line::read_bytes))]
 fn read_bytes(digits: usize, bytes: [u8; limits::BYTES]) -> Cue
     ensures { result ≡ read_bytes digits bytes }
 {
-    let Found::Nothing = fields::first_bad_head(&bytes) else {
+    if fields::first_bad_head(&bytes).is_some() {
         return refuse(Answer::Field);
-    };
+    }
     let header = fields::header(&bytes);
     let places = fields::places(header);
     if digits != 2 * places.end {
         return refuse(Answer::Length);
     }
-    let Found::Nothing = fields::first_bad_field(header, places, &bytes) else {
+    if fields::first_bad_field(header, places, &bytes).is_some() {
         return refuse(Answer::Field);
-    };
+    }
     Cue {
         line: Line::Read(header),
-        places: places,
-        bytes: bytes,
+        places,
+        bytes,
     }
 }
 
 // A line of any length and any characters.
+#[tactic(auto, using(crate::proofs::Characters::others), unfolding(crate::specs::Line::read_line))]
 pub fn read(text: &[u8]) -> Cue
     ensures { result ≡ read_line text.now }
 {
@@ -200,7 +194,7 @@ pub fn read(text: &[u8]) -> Cue
     if limits::DIGITS < digits {
         return refuse(Answer::Length);
     }
-    if digits::first_other(text) < digits {
+    if digits::first_other(text).is_some() {
         return refuse(Answer::Character);
     }
     if digits::is_ragged(digits) {
@@ -209,6 +203,5 @@ pub fn read(text: &[u8]) -> Cue
     if digits == 0 {
         return no_cue();
     }
-    let bytes = digits::bytes(text);
-    read_bytes(digits, bytes)
+    read_bytes(digits, digits::bytes(text))
 }

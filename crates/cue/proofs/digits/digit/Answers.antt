@@ -1,20 +1,19 @@
--- `cue::digits::digit` meets its contract: each arm is the case of `digit_of` that its tests pick, and the tests bound it. Assumes nothing.
-use borrow.Author.Rules.{rules}
+-- `cue::digits::digit` meets its contract: each arm is the case of `digit_in` that its tests pick. Assumes nothing.
 use native.Mathlib.Omega.{arith}
 use Rattle.cue.proofs.Characters.{inside, below, above}
 use Rattle.cue.proofs.digits.digit.Goals as goal
 
-pub returns-in-48-to-57 : goal.returns-in-48-to-57
-returns-in-48-to-57 c = (rw (inside 48 57 c.args.c (omega arith) (omega arith)), omega arith)
+pub returns-in-48-to-57-clause-is : goal.returns-in-48-to-57-clause-is
+returns-in-48-to-57-clause-is c = rw (inside 48 57 c.args.c (omega arith) (omega arith))
 
-pub returns-in-97-to-102 : goal.returns-in-97-to-102
-returns-in-97-to-102 c = (rw (above 48 57 c.args.c (omega arith), inside 97 102 c.args.c (omega arith) (omega arith)), omega arith)
+pub returns-in-97-to-102-clause-is : goal.returns-in-97-to-102-clause-is
+returns-in-97-to-102-clause-is c = rw (above 48 57 c.args.c (omega arith), inside 97 102 c.args.c (omega arith) (omega arith))
 
-pub returns-in_default : goal.returns-in_default
-returns-in_default c = (rw (below 48 57 c.args.c (omega arith), below 97 102 c.args.c (omega arith)), omega arith)
+pub returns-in_default-clause-is : goal.returns-in_default-clause-is
+returns-in_default-clause-is c = rw (below 48 57 c.args.c (omega arith), below 97 102 c.args.c (omega arith))
 
-pub returns-in_default-2 : goal.returns-in_default-2
-returns-in_default-2 c = (rw (above 48 57 c.args.c (omega arith), below 97 102 c.args.c (omega arith)), omega arith)
+pub returns-in_default-2-clause-is : goal.returns-in_default-2-clause-is
+returns-in_default-2-clause-is c = rw (above 48 57 c.args.c (omega arith), below 97 102 c.args.c (omega arith))
 
-pub returns-in_default-3 : goal.returns-in_default-3
-returns-in_default-3 c = (rw (above 48 57 c.args.c (omega arith), above 97 102 c.args.c (omega arith)), omega arith)
+pub returns-in_default-3-clause-is : goal.returns-in_default-3-clause-is
+returns-in_default-3-clause-is c = rw (above 48 57 c.args.c (omega arith), above 97 102 c.args.c (omega arith))

@@ -1,6 +1,0 @@
--- `cue::no_cue` meets its contract: the places are those of no header, and the bytes zeros. Assumes nothing.
-use borrow.Author.Rules.{rules}
-use Rattle.cue.proofs.no_cue.Goals as goal
-
-pub returns : goal.returns
-returns c = rw (c.places.ensures, c.no_header-header.ensures)
