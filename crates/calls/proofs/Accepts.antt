@@ -1,4 +1,5 @@
 -- A call that is accepted was lent buffers and samples that fit: a line is never refused with Done, so acceptance comes from the input. Assumes nothing.
+use Rattle.std.specs.Prelude.{Result, Ok, Err}
 use Prim.Native.Nat.{ℕ, ◌+◌, ◌*◌, ◌%◌, ◌≤◌}
 use native.Mathlib.Omega.{arith}
 use mathlib.Core.Path.{◌≡◌, refl, sym, ap, ◌∙◌}
@@ -13,8 +14,7 @@ use Rattle.answer.specs.declared.Answer.{Answer}
 use Rattle.answer.specs.declared.Answer.TheVariants.{Done, Quiet, Buffers, Sample}
 use Rattle.answer.specs.Number.{number_of}
 use Rattle.answer.proofs.Refused.{zero_done}
-use Rattle.cue.specs.declared.Line.{Line}
-use Rattle.cue.specs.declared.Line.TheVariants.{Read, Refused}
+use Rattle.cue.specs.declared.Header.{Header}
 use Rattle.cue.proofs.Refusals as cue
 use Rattle.ps_data.proofs.Laws.{line_kept}
 use Rattle.calls.specs.Call.{Call, Playing, buffers_fit, samples_fit, input_answer, resolved, answer_of, answer}
@@ -25,7 +25,7 @@ pub record Fitting (s : Playing) (c : Call) : Type 0 where
   pub samples : samples_fit s.slots c.input ≡ true
 
 module _ (s : Playing) (c : Call) where
-  pub refused_not_done : (a : Answer) → (resolved s c).line ≡ Refused a → number_of a ≢ 0
+  pub refused_not_done : (a : Answer) → (resolved s c).line ≡ Err a → number_of a ≢ 0
   refused_not_done a e = cue.refused_not_done c.line a (sym (line_kept s.lines c.line) ∙ e)
 
   pub accepted_fits : number_of (answer s c) ≡ 0 → Fitting s c
@@ -42,9 +42,9 @@ module _ (s : Playing) (c : Call) where
       read true z = input _ _ refl refl (zero_done (input_answer s.slots c.input (length c.left) (length c.right)) z)
       read false z = absurd (omega arith)
 
-      by : (line : Line) → (resolved s c).line ≡ line → number_of (answer_of s c line) ≡ 0 → Fitting s c
-      by (Read h) is z = read (h.cued || s.lines.configured) z
-      by (Refused a) is z = absurd (refused_not_done a is z)
+      by : (line : Result Header Answer) → (resolved s c).line ≡ line → number_of (answer_of s c line) ≡ 0 → Fitting s c
+      by (Ok h) is z = read (h.cued || s.lines.configured) z
+      by (Err a) is z = absurd (refused_not_done a is z)
 
 -- an input that is taken has the rows that a frame reads
 pub taken_room : (slots : ℕ) (input : List Float) (left right : ℕ) → input_answer slots input left right ≡ Done → 128 * (slots + 6) ≤ length input

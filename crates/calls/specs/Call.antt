@@ -1,5 +1,5 @@
 -- Annex 8.A.3 and document 01: one call of the decoder, a frame. Assumes nothing.
-use Rattle.std.specs.Prelude.{ℕ, ◌+◌, ◌-◌, ◌*◌, ◌%◌, min, Bool, not, cond, ◌&&◌, ◌||◌, List, [], eqb, leb, ltb, Float, length, take}
+use Rattle.std.specs.Prelude.{ℕ, ◌+◌, ◌-◌, ◌*◌, ◌%◌, min, Bool, not, cond, ◌&&◌, ◌||◌, List, [], eqb, leb, ltb, Float, length, take, Result, Ok, Err}
 use Rattle.std.specs.Float.Ieee.{le, neg}
 use Rattle.answer.specs.declared.Answer.{Answer}
 use Rattle.answer.specs.declared.Answer.TheVariants.{Done, Quiet, Buffers, Sample}
@@ -7,8 +7,6 @@ use Rattle.answer.specs.Number.{number_of}
 use Rattle.borders.specs.Borders.{slots_of, borders_of}
 use Rattle.complex.specs.declared.Complex.{Complex}
 use Rattle.cue.specs.declared.Header.{Header}
-use Rattle.cue.specs.declared.Line.{Line}
-use Rattle.cue.specs.declared.Line.TheVariants.{Read, Refused}
 use Rattle.cue.specs.Fields.{fine_of, rb_of}
 use Rattle.cue.specs.Line.{no_header}
 use Rattle.layout.specs.declared.Layout.{Layout}
@@ -72,9 +70,9 @@ module _ (s : Playing) (c : Call) where
   resolved = resolve_line s.lines c.line
 
   -- document 01's order: the line, quiet, the input
-  unfoldable pub answer_of : Line → Answer
-  answer_of (Refused a) = a
-  answer_of (Read h) =
+  unfoldable pub answer_of : Result Header Answer → Answer
+  answer_of (Err a) = a
+  answer_of (Ok h) =
       cond (h.cued || s.lines.configured) (input_answer s.slots c.input (length c.left) (length c.right)) Quiet
 
   abbrev pub answer : Answer
@@ -82,9 +80,9 @@ module _ (s : Playing) (c : Call) where
 
 -- ---- the frame of an accepted call
 
-abbrev pub header_of : Line → Header
-header_of (Read h) = h
-header_of (Refused a) = no_header
+abbrev pub header_of : Result Header Answer → Header
+header_of (Ok h) = h
+header_of (Err a) = no_header
 
 abbrev pub modes_of : Header → Modes
 modes_of h = record { fine = fine_of h.config; rb = rb_of h.config; phase = h.phase }

@@ -1,4 +1,5 @@
 -- A line that is refused is not refused with Done, by the refusals in turn. Assumes nothing.
+use Rattle.std.specs.Prelude.{Result, Ok, Err}
 use Prim.Native.Nat.{ℕ, ◌*◌}
 use native.Mathlib.Omega.{arith}
 use mathlib.Core.Path.{◌≡◌, subst}
@@ -13,17 +14,16 @@ use Rattle.limits.specs.Limits as limits
 use Rattle.lists.specs.First.{before}
 use Rattle.lists.specs.Padded.{padded}
 use Rattle.cue.specs.declared.Cue.{Cue}
+use Rattle.cue.specs.declared.Header.{Header}
 use Rattle.std.specs.Option.{is_some}
-use Rattle.cue.specs.declared.Line.{Line}
-use Rattle.cue.specs.declared.Line.TheVariants.{Read, Refused}
 use Rattle.cue.specs.Checks.{found, head_checks, body_checks}
 use Rattle.cue.specs.Digits.{is_digit, bytes_of, ragged}
 use Rattle.cue.specs.Fields.{places_of, header_of}
 use Rattle.cue.specs.Line.{read_bytes, read_line}
 
-abbrev Sound : Line → Type 0
-Sound (Read h) = Unit
-Sound (Refused a) = number_of a ≢ 0
+abbrev Sound : Result Header Answer → Type 0
+Sound (Ok h) = Unit
+Sound (Err a) = number_of a ≢ 0
 
 either : (t : Bool) (x y : Cue) → Sound x.line → Sound y.line → Sound (cond {A = Cue} t x y).line
 either true x y p q = p
@@ -44,5 +44,5 @@ line_sound text =
     (either (ragged (length text)) _ _ (λ e. omega arith)
     (either (eqb (length text) 0) _ _ tt (bytes_sound (length text) (padded limits.bytes 0 (bytes_of text))))))
 
-pub refused_not_done : (text : List ℕ) (a : Answer) → (read_line text).line ≡ Refused a → number_of a ≢ 0
+pub refused_not_done : (text : List ℕ) (a : Answer) → (read_line text).line ≡ Err a → number_of a ≢ 0
 refused_not_done text a e = subst Sound e (line_sound text)

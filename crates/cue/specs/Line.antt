@@ -1,5 +1,5 @@
 -- Document 01, 'The cue line': what a line says, or by which answer it is refused, in the order of the refusals. Assumes nothing.
-use Rattle.std.specs.Prelude.{ℕ, ◌*◌, List, false, cond, not, ltb, eqb, length, replicate}
+use Rattle.std.specs.Prelude.{ℕ, ◌*◌, List, false, cond, not, ltb, eqb, length, replicate, Result, Ok, Err}
 use Rattle.std.specs.Option.{is_some}
 use Rattle.lists.specs.First.{before}
 use Rattle.lists.specs.Padded.{padded}
@@ -7,17 +7,15 @@ use Rattle.limits.specs.Limits as limits
 use Rattle.answer.specs.declared.Answer.{Answer}
 use Rattle.answer.specs.declared.Answer.TheVariants.{Done, Character, Length, Field}
 use Rattle.cue.specs.declared.Header.{Header}
-use Rattle.cue.specs.declared.Line.{Line}
-use Rattle.cue.specs.declared.Line.TheVariants.{Read, Refused}
 use Rattle.cue.specs.declared.Cue.{Cue}
 use Rattle.cue.specs.Digits.{is_digit, bytes_of, ragged}
 use Rattle.cue.specs.Fields.{places_of, header_of}
 use Rattle.cue.specs.Checks.{found, head_checks, body_checks}
 
 -- the answer of reading: 0 where the line is read
-abbrev pub answer_of : Line → Answer
-answer_of (Read h) = Done
-answer_of (Refused a) = a
+abbrev pub answer_of : Result Header Answer → Answer
+answer_of (Ok h) = Done
+answer_of (Err a) = a
 
 -- an empty line brings no stereo data
 abbrev pub no_header : Header
@@ -32,11 +30,11 @@ no_header =
 
 -- a line that is read, with its bytes
 abbrev pub cue_of : Header → List ℕ → Cue
-cue_of h bytes = record { line = Read h; places = places_of h; bytes = bytes }
+cue_of h bytes = record { line = Ok h; places = places_of h; bytes = bytes }
 
 -- nothing is padded of a refused line
 abbrev pub refused : Answer → Cue
-refused answer = record { line = Refused answer; places = places_of no_header; bytes = replicate limits.bytes 0 }
+refused answer = record { line = Err answer; places = places_of no_header; bytes = replicate limits.bytes 0 }
 
 -- the bytes of a line of so many digits, zeros after them; a byte out of range refuses the line
 unfoldable pub read_bytes : ℕ → List ℕ → Cue

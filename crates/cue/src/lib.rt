@@ -54,11 +54,8 @@ pub struct Places {
     pub end: usize,
 }
 
-#[derive(Clone, Copy)]
-pub enum Line {
-    Read(Header),
-    Refused(Answer),
-}
+// What a line says, or by which answer it is refused.
+pub type Line = Result<Header, Answer>;
 
 // A line, where its rows stand, and its bytes with zeros after them.
 #[derive(Clone, Copy)]
@@ -68,14 +65,13 @@ pub struct Cue {
     pub bytes: [u8; limits::BYTES],
 }
 
-impl Line {
-    pub fn answer(self) -> Answer
-        ensures { result ≡ answer_of self }
-    {
-        match self {
-            Line::Read(_) => Answer::Done,
-            Line::Refused(a) => a,
-        }
+// The answer of reading a line.
+pub fn answer_of(line: Line) -> Answer
+    ensures { result ≡ answer_of line }
+{
+    match line {
+        Ok(_) => Answer::Done,
+        Err(answer) => answer,
     }
 }
 
@@ -145,7 +141,7 @@ fn refuse(answer: Answer) -> Cue
     ensures { result ≡ refused answer }
 {
     Cue {
-        line: Line::Refused(answer),
+        line: Err(answer),
         places: fields::places(no_header()),
         bytes: [0; limits::BYTES],
     }
@@ -156,7 +152,7 @@ fn no_cue() -> Cue
 {
     let header = no_header();
     Cue {
-        line: Line::Read(header),
+        line: Ok(header),
         places: fields::places(header),
         bytes: [0; limits::BYTES],
     }
@@ -179,7 +175,7 @@ fn read_bytes(digits: usize, bytes: [u8; limits::BYTES]) -> Cue
         return refuse(Answer::Field);
     }
     Cue {
-        line: Line::Read(header),
+        line: Ok(header),
         places,
         bytes,
     }

@@ -6,7 +6,6 @@ mod text;
 
 ghost use Rattle.std.specs.Prelude.{◌≤◌, length};
 
-use cue::Line;
 use ps_data::{PsIndices, PsLines};
 use std::io::{ErrorKind, Read, Result};
 use std::process::ExitCode;
@@ -45,8 +44,8 @@ fn list_line(out: &impl Print, before: Listing, line: &[u8]) -> Listing {
     let got = ps_data::resolve(lines, line);
     let read = got.line;
     let indices = got.indices;
-    let Line::Read(header) = read else {
-        let refusal = read.answer();
+    let Ok(header) = read else {
+        let refusal = cue::answer_of(read);
         let written = write_line(out, number, refusal.number(), indices);
         let mut after = before;
         after.number = number;

@@ -1,5 +1,5 @@
 -- §8.5.2, document 01, 'Indices': the absolute indices of a frame, and what the lines so far have left for the next one. Assumes nothing.
-use Rattle.std.specs.Prelude.{ℕ, ◌%◌, min, List, [], Bool, false, cond, ◌||◌, ◌&&◌, eqb, replicate, take, drop}
+use Rattle.std.specs.Prelude.{ℕ, ◌%◌, min, List, [], Bool, false, cond, ◌||◌, ◌&&◌, eqb, replicate, take, drop, Result, Ok, Err}
 use Rattle.limits.specs.Limits as limits
 use Rattle.lists.specs.Padded.{padded}
 use Rattle.answer.specs.declared.Answer.{Answer}
@@ -11,8 +11,6 @@ use Rattle.cue.specs.declared.Config.{Config}
 use Rattle.cue.specs.declared.Parameter.{Parameter}
 use Rattle.cue.specs.declared.Places.{Places}
 use Rattle.cue.specs.declared.Header.{Header}
-use Rattle.cue.specs.declared.Line.{Line}
-use Rattle.cue.specs.declared.Line.TheVariants.{Read, Refused}
 use Rattle.cue.specs.Fields.{fine_of}
 use Rattle.cue.specs.Line.{read_line}
 use Rattle.ps_rows.specs.declared.Kind.{Kind}
@@ -80,14 +78,14 @@ positions_of h bytes =
     cond h.variable (padded limits.envelopes 0 (take (min h.envelopes limits.envelopes) (drop 4 bytes))) (replicate limits.envelopes 0)
 
 -- nothing is resolved
-abbrev pub unresolved : PsLines → Line → Resolved
+abbrev pub unresolved : PsLines → Result Header Answer → Resolved
 unresolved lines line = record { line = line; lines = lines; indices = no_indices; positions = replicate limits.envelopes 0 }
 
 -- the rows of the four kinds
 abbrev pub collected : PsLines → Header → ResolvedKind → ResolvedKind → ResolvedKind → ResolvedKind → List ℕ → Resolved
 collected s h iid icc ipd opd positions =
     record {
-      line = Read h;
+      line = Ok h;
       lines = lines_after s h (record { iid = iid.kept; icc = icc.kept; ipd = ipd.kept; opd = opd.kept });
       indices = record { iid = iid.rows; icc = icc.rows; ipd = ipd.rows; opd = opd.rows };
       positions = positions;
@@ -104,9 +102,9 @@ resolved s h at bytes =
     (positions_of h bytes)
 
 -- no envelopes change no index, and a refused line changes nothing
-abbrev pub by_line : PsLines → Line → Places → List ℕ → Resolved
-by_line s (Read h) at bytes = cond (eqb h.envelopes 0) (unresolved (lines_after s h s.rows) (Read h)) (resolved s h at bytes)
-by_line s (Refused a) at bytes = unresolved s (Refused a)
+abbrev pub by_line : PsLines → Result Header Answer → Places → List ℕ → Resolved
+by_line s (Ok h) at bytes = cond (eqb h.envelopes 0) (unresolved (lines_after s h s.rows) (Ok h)) (resolved s h at bytes)
+by_line s (Err a) at bytes = unresolved s (Err a)
 
 unfoldable pub resolve_line : PsLines → List ℕ → Resolved
 resolve_line s text = by_line s (read_line text).line (read_line text).places (read_line text).bytes

@@ -5,7 +5,7 @@ ghost use Rattle.lists.specs.Padded.{padded};
 ghost use Rattle.ps_data.specs.Indices.{forgotten, kind_of, quantiser_of, positions_of, collected, resolved};
 
 use super::{PsIndexState, PsIndices, PsLines, Resolved};
-use cue::{Block, Config, Header, Line, Places};
+use cue::{Block, Config, Header, Places};
 use ps_rows::{Kind, ResolvedKind, Row};
 
 fn forget() -> ResolvedKind
@@ -99,7 +99,7 @@ fn collect(
         opd: opd_rows,
     };
     Resolved {
-        line: Line::Read(h),
+        line: Ok(h),
         lines: super::lines_after(lines, h, kept),
         indices: indices,
         positions: positions,

@@ -150,12 +150,12 @@ pub fn resolve(lines: PsLines, text: &[u8]) -> Resolved
 {
     let read = cue::read(text);
     let line = read.line;
-    let Line::Read(header) = line else {
+    let Ok(header) = line else {
         return leave(lines, line);
     };
     if header.envelopes == 0 {
         let rows = lines.rows;
-        return leave(lines_after(lines, header, rows), Line::Read(header));
+        return leave(lines_after(lines, header, rows), Ok(header));
     }
     let at = read.places;
     let bytes = read.bytes;

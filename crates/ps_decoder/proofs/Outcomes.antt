@@ -1,4 +1,5 @@
 -- An accepted call, by what the driver finds out in turn and what its stages give. Assumes nothing.
+use Rattle.std.specs.Prelude.{Ok}
 use native.Mathlib.Omega.{arith}
 use mathlib.Core.Path.{◌≡◌, refl, sym, ap, ◌∙◌}
 use mathlib.Core.Bool.{Bool, true, false, ◌||◌}
@@ -14,7 +15,6 @@ use Rattle.calls.specs.Call.{Call, input_answer, resolved, answer_of, answer, he
 use Rattle.calls.proofs.Accepts.{accepted_fits}
 use Rattle.calls.proofs.Outcomes.{done_played}
 use Rattle.cue.specs.declared.Header.{Header}
-use Rattle.cue.specs.declared.Line.TheVariants.{Read}
 use Rattle.ps_data.specs.Indices.{layout_in, read_answer}
 use Rattle.ps_state.specs.declared.PsDecoder.{PsDecoder}
 use Rattle.ps_state.specs.State.{core_of, playing_of}
@@ -25,7 +25,7 @@ use Rattle.ps_decoder.specs.Sound.{left_of, right_of, sounded}
 use Rattle.ps_decoder.proofs.Accepted.{state_is, left_is, right_is}
 use Rattle.ps_decoder.proofs.Refusals.{Left}
 
-module _ (s : PsDecoder) (c : Call) (h : Header) (said : (resolved (playing_of s) c).line ≡ Read h) (heard : read_answer h s.lines.configured ≡ Done)
+module _ (s : PsDecoder) (c : Call) (h : Header) (said : (resolved (playing_of s) c).line ≡ Ok h) (heard : read_answer h s.lines.configured ≡ Done)
     (lent : input_answer (slots_of s.asked) c.input (length c.left) (length c.right) ≡ Done) where
   header_is : header (playing_of s) c ≡ h
   header_is = ap header_of said

@@ -1,4 +1,5 @@
 -- Calls that are not accepted, by what the driver finds out in turn: the line, quiet, the input. Assumes nothing.
+use Rattle.std.specs.Prelude.{Ok, Err}
 use native.Mathlib.Omega.{arith}
 use mathlib.Core.Path.{◌≡◌, refl, sym, ap, ◌∙◌}
 use mathlib.Core.Logic.{◌≢◌}
@@ -16,7 +17,6 @@ use Rattle.calls.specs.Call.{Call, input_answer, resolved, answer_of, answer, pl
 use Rattle.calls.proofs.Accepts.{refused_not_done}
 use Rattle.calls.proofs.Outcomes.{refused_unchanged}
 use Rattle.cue.specs.declared.Header.{Header}
-use Rattle.cue.specs.declared.Line.TheVariants.{Read, Refused}
 use Rattle.ps_data.specs.Indices.{read_answer}
 use Rattle.ps_state.specs.declared.PsDecoder.{PsDecoder}
 use Rattle.ps_state.specs.State.{playing_of}
@@ -36,12 +36,12 @@ unchanged s c a e ne =
     (rw (kept, e), (rw same, rw same))
 
 -- a line that is refused
-pub line_refused : (s : PsDecoder) (c : Call) (a : Answer) → (resolved (playing_of s) c).line ≡ Refused a → Left s c (record { answer = a; state = s }) c.left c.right
+pub line_refused : (s : PsDecoder) (c : Call) (a : Answer) → (resolved (playing_of s) c).line ≡ Err a → Left s c (record { answer = a; state = s }) c.left c.right
 unfolding answer_of
 line_refused s c a e = unchanged s c a (rw e) (refused_not_done (playing_of s) c a e)
 
 -- an empty line before any configuration
-pub quiet : (s : PsDecoder) (c : Call) (h : Header) (a : Answer) → (resolved (playing_of s) c).line ≡ Read h → a ≡ read_answer h s.lines.configured → number_of a ≢ 0
+pub quiet : (s : PsDecoder) (c : Call) (h : Header) (a : Answer) → (resolved (playing_of s) c).line ≡ Ok h → a ≡ read_answer h s.lines.configured → number_of a ≢ 0
     → Left s c (record { answer = a; state = s }) c.left c.right
 unfolding answer_of playing_of
 quiet s c h a e is ne = go (h.cued || s.lines.configured) refl
@@ -55,7 +55,7 @@ quiet s c h a e is ne = go (h.cued || s.lines.configured) refl
         unchanged s c a (rw (e, b) (sym (is ∙ said))) ne
 
 -- an input that is refused
-pub input_refused : (s : PsDecoder) (c : Call) (h : Header) (a : Answer) → (resolved (playing_of s) c).line ≡ Read h → read_answer h s.lines.configured ≡ Done
+pub input_refused : (s : PsDecoder) (c : Call) (h : Header) (a : Answer) → (resolved (playing_of s) c).line ≡ Ok h → read_answer h s.lines.configured ≡ Done
     → a ≡ input_answer (slots_of s.asked) c.input (length c.left) (length c.right) → number_of a ≢ 0
     → Left s c (record { answer = a; state = s }) c.left c.right
 unfolding answer_of playing_of

@@ -13,7 +13,7 @@ ghost use Rattle.ps_decoder.specs.Frame.{call_of, played_by, returned, returned_
 ghost use Rattle.ps_decoder.specs.Sound.{Sounded};
 
 use answer::Answer;
-use cue::{Header, Line};
+use cue::Header;
 use ps_data::Resolved;
 use ps_state::{PsCarried, PsDecoder};
 
@@ -83,8 +83,8 @@ pub fn lent_frame(
     let lines = carried.lines;
     let resolved = ps_data::resolve(lines, line);
     let read = resolved.line;
-    let Line::Read(header) = read else {
-        return refused(read.answer(), carried);
+    let Ok(header) = read else {
+        return refused(cue::answer_of(read), carried);
     };
     let of_line = ps_data::read_answer(header, lines.configured);
     let Answer::Done = of_line else {

@@ -1,4 +1,5 @@
 -- The rows that a line resolves to, and those kept after it, are rows that memory keeps. Assumes nothing.
+use Rattle.std.specs.Prelude.{Result, Ok, Err}
 use mathlib.Core.List.{List, [], ◌∷◌, ◌++◌}
 use Prim.Native.Nat.{ℕ, zero, suc, ◌+◌, ◌≤◌, ◌<◌, min}
 use native.Mathlib.Omega.{arith}
@@ -7,11 +8,10 @@ use lib.IntN.{ℤ, pos}
 use lib.ListN.{length, drop, get_or, replicate}
 use lib.Signed.{mag}
 use Rattle.calls.specs.Cues.{envelope_row}
+use Rattle.answer.specs.declared.Answer.{Answer}
 use Rattle.cue.specs.declared.Block.{Block}
 use Rattle.cue.specs.declared.Header.{Header}
-use Rattle.cue.specs.declared.Line.{Line}
 use Rattle.cue.specs.declared.Places.{Places}
-use Rattle.cue.specs.declared.Line.TheVariants.{Read, Refused}
 use Rattle.cue.specs.Line.{read_line}
 use Rattle.integers.proofs.Sizes.{between}
 use Rattle.limits.specs.Limits as limits
@@ -120,9 +120,9 @@ module _ (s : PsLines) (kept : IndicesKept s.rows) where
         opd = kind_narrow _ _ _ at.opd _;
       }
 
-  by_line_kept : (line : Line) (at : Places) (bytes : List ℕ) → ResolvedKept (by_line s line at bytes)
-  by_line_kept (Refused a) at bytes = record { rows = kept; ipd = nothing_narrow; opd = nothing_narrow }
-  by_line_kept (Read h) at bytes =
+  by_line_kept : (line : Result Header Answer) (at : Places) (bytes : List ℕ) → ResolvedKept (by_line s line at bytes)
+  by_line_kept (Err a) at bytes = record { rows = kept; ipd = nothing_narrow; opd = nothing_narrow }
+  by_line_kept (Ok h) at bytes =
       either ResolvedKept (eqb h.envelopes 0) _ _ (record { rows = kept; ipd = nothing_narrow; opd = nothing_narrow }) (header_kept h at bytes)
 
   pub line_kept : (text : List ℕ) → ResolvedKept (resolve_line s text)

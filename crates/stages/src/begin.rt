@@ -3,7 +3,7 @@ ghost use Rattle.std.specs.Prelude.{◌≡◌, length};
 
 use crate::sheet::Wanted;
 use crate::{carried, coefficients, sheet};
-use cue::{Header, Line};
+use cue::Header;
 use layout::Layout;
 use ps_data::{PsLines, Resolved};
 use ps_state::PsCarried;
@@ -140,7 +140,7 @@ pub fn begin(
     let lines = small.lines;
     let resolved = ps_data::resolve(lines, line);
     let read = resolved.line;
-    let Line::Read(header) = read else {
+    let Ok(header) = read else {
         return Begun {
             read: false,
             asked: 0,

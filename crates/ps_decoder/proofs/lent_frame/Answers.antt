@@ -1,5 +1,6 @@
 -- `ps_decoder::lent_frame` meets its contract: each return is the case of the call that the sound's length, the line, quiet and the input pick. Assumes
 -- nothing.
+use Rattle.std.specs.Prelude.{Ok}
 use native.Mathlib.Omega.{arith}
 use borrow.Author.Rules.{rules}
 use mathlib.Core.Path.{◌≡◌, sym, ap, ◌∙◌}
@@ -9,7 +10,6 @@ use Rattle.answer.proofs.Refused.{zero_done}
 use Rattle.calls.specs.Call.{Call, resolved}
 use Rattle.calls.proofs.Accepts.{taken_room}
 use Rattle.cue.specs.declared.Header.{Header}
-use Rattle.cue.specs.declared.Line.TheVariants.{Read}
 use Rattle.cue.specs.Line as line
 use Rattle.ps_data.specs.declared.Resolved.{Resolved}
 use Rattle.ps_data.specs.Indices.{read_answer}
@@ -37,7 +37,7 @@ returns-in_default c =
     let long : length c.args.sound.now ≡ sound_long = omega arith in
     let resolved_is : c.resolve-resolved.result ≡ resolved (playing_of state) call = c.resolve-resolved.ensures in
     let refused = c.in_default.is in
-    let answered = c.answer.ensures ∙ ap line.answer_of refused in
+    let answered = c.answer_of.ensures ∙ ap line.answer_of refused in
     lent_refused c.args.carried c.args.sound.now call _ c.refused-in_default.result long (c.refused-in_default.ensures.0 ∙ answered, c.refused-in_default.ensures.1)
     (line_refused state call _ (ap (λ (x : Resolved). x.line) (sym resolved_is) ∙ refused))
 
@@ -49,8 +49,8 @@ returns-in_default-of_line c =
     let call : Call = call_by in
     let long : length c.args.sound.now ≡ sound_long = omega arith in
     let resolved_is : c.resolve-resolved.result ≡ resolved (playing_of state) call = c.resolve-resolved.ensures in
-    let header : Header = c.in-Read.header in
-    let says : (resolved (playing_of state) call).line ≡ Read header = ap (λ (x : Resolved). x.line) (sym resolved_is) ∙ c.in-Read.is in
+    let header : Header = c.in-Ok.header in
+    let says : (resolved (playing_of state) call).line ≡ Ok header = ap (λ (x : Resolved). x.line) (sym resolved_is) ∙ c.in-Ok.is in
     let read = c.read_answer-of_line in
     lent_refused c.args.carried c.args.sound.now call read.result c.refused-in_default-of_line.result long c.refused-in_default-of_line.ensures
     (quiet state call header read.result says read.ensures (λ e. c.in_default-of_line.not-Done (zero_done read.result e)))
@@ -63,8 +63,8 @@ returns-in_default-of_input c =
     let call : Call = call_by in
     let long : length c.args.sound.now ≡ sound_long = omega arith in
     let resolved_is : c.resolve-resolved.result ≡ resolved (playing_of state) call = c.resolve-resolved.ensures in
-    let header : Header = c.in-Read.header in
-    let says : (resolved (playing_of state) call).line ≡ Read header = ap (λ (x : Resolved). x.line) (sym resolved_is) ∙ c.in-Read.is in
+    let header : Header = c.in-Ok.header in
+    let says : (resolved (playing_of state) call).line ≡ Ok header = ap (λ (x : Resolved). x.line) (sym resolved_is) ∙ c.in-Ok.is in
     let heard : read_answer header state.lines.configured ≡ Done = sym c.read_answer-of_line.ensures ∙ c.in-Done.is in
     let answered = c.input_answer-of_input in
     lent_refused c.args.carried c.args.sound.now call answered.result c.refused-in_default-of_input.result long c.refused-in_default-of_input.ensures
@@ -85,8 +85,8 @@ returns c =
     let long : length c.args.sound.now ≡ sound_long = omega arith in
     let shaped : Shaped state = shaped_in c.args.carried c.args.sound.now long c.well_formed.0.1.1.1.1.1.1.0.1.0.1 in
     let resolved_is : c.resolve-resolved.result ≡ resolved (playing_of state) call = c.resolve-resolved.ensures in
-    let header : Header = c.in-Read.header in
-    let says : (resolved (playing_of state) call).line ≡ Read header = ap (λ (x : Resolved). x.line) (sym resolved_is) ∙ c.in-Read.is in
+    let header : Header = c.in-Ok.header in
+    let says : (resolved (playing_of state) call).line ≡ Ok header = ap (λ (x : Resolved). x.line) (sym resolved_is) ∙ c.in-Ok.is in
     let heard : read_answer header state.lines.configured ≡ Done = sym c.read_answer-of_line.ensures ∙ c.in-Done.is in
     let taken = sym c.input_answer-of_input.ensures ∙ c.in-Done-of_input.is in
     let sounded = c.play-next.ensures.sounded in
