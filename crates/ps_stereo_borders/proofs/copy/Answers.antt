@@ -79,7 +79,7 @@ offset_bounds-from-source c =
 pub slice_bounds-copy_from_slice-end : goal.slice_bounds-copy_from_slice-end
 slice_bounds-copy_from_slice-end c = omega (arith, target c.loop-b.invariant c.loop-b-test.true, c.loop-b.invariant.room.broad)
 
-pub slice_bounds-copy_from_slice-end-in-loop-b : goal.slice_bounds-copy_from_slice-end-2
+pub slice_bounds-copy_from_slice-end-in-loop-b : goal.slice_bounds-copy_from_slice-end-in-loop-b
 slice_bounds-copy_from_slice-end-in-loop-b c = source c.loop-b.invariant c.loop-b-test.true
 
 pub overflow_add-target : goal.overflow_add-target
