@@ -50,14 +50,14 @@ impl ThirtyFour {
     pub const EDGE_SHIFT: usize = 27;
 }
 
-#[derive(Clone, Copy)]
+#[derive(Clone, Copy, Debug, PartialEq, Eq)]
 pub enum Layout {
     Bands20,
     Bands34,
 }
 
 // How a channel is de-correlated: by an all-pass chain, by a delay of 14 slots, or by one of one slot.
-#[derive(Clone, Copy)]
+#[derive(Clone, Copy, Debug, PartialEq, Eq)]
 pub enum Kind {
     AllPass,
     Long,

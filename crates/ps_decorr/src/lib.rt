@@ -29,17 +29,13 @@ pub fn fresh() -> PsDecorr
     }
 }
 
-// The columns from one on, in each of some rows.
-fn clear_columns(xs: &mut [f64], rows: usize, width: usize, column: usize)
-    requires { (length xs.old ≡ rows * width) × (column ≤ width) }
-    ensures { xs.new ≡ silenced_from (λ m. m % width) column xs.old }
+// The columns from one on, in each of the ring's 14 rows.
+fn clear_ring(ring: &mut [f64], column: usize)
+    requires { (length ring.old ≡ 336) × (column ≤ 24) }
+    ensures { ring.new ≡ silenced_from (λ m. m % 24) column ring.old }
 {
-    let mut at = 0;
-    for _row in 0..rows {
-        for i in at + column..at + width {
-            xs[i] = 0.0;
-        }
-        at += width;
+    for row in 0..14 {
+        ring[24 * row + column..24 * row + 24].fill(0.0);
     }
 }
 
@@ -49,22 +45,16 @@ fn clear_chains(delays: &mut [f64], k: usize)
     ensures { delays.new ≡ silenced_from owner_of k delays.old }
 {
     let at = 112 * (k / 4);
-    let all = delays.len();
-    clear_columns(&mut delays[at..at + 112], 28, 4, k % 4);
-    clear_columns(delays, 1, all, at + 112);
+    ps_decorr_allpass::silence(&mut delays[at..at + 112], k % 4);
+    delays[at + 112..].fill(0.0);
 }
 
 // A frame's own reset: the all-pass channels from k on. Nothing changes where k is none, or the delays have no room for the layout's groups.
 pub fn reset_chains(layout: Layout, k: usize, delays: &mut [f64])
     ensures { delays.new ≡ delays_reset layout k delays.old }
 {
-    if delays.len() < 112 * layout.groups() {
-        return;
-    }
-    match layout.kind(k) {
-        Kind::AllPass => clear_chains(delays, k),
-        Kind::Long => {}
-        Kind::Short => {}
+    if 112 * layout.groups() <= delays.len() && layout.kind(k) == Kind::AllPass {
+        clear_chains(delays, k);
     }
 }
 
@@ -74,18 +64,14 @@ fn clear_plain(layout: Layout, k: usize, plain: &mut [f64])
     ensures { plain.new ≡ silenced_from (plain_owner layout) k plain.old }
 {
     match layout.kind(k) {
-        Kind::AllPass => clear_columns(plain, 1, 394, 0),
+        Kind::AllPass => plain.fill(0.0),
         Kind::Long => {
-            clear_columns(&mut plain[0..336], 14, 24, 2 * (k - layout.all_pass()));
-            clear_columns(&mut plain[336..394], 1, 58, 0);
+            clear_ring(&mut plain[0..336], 2 * (k - layout.all_pass()));
+            plain[336..394].fill(0.0);
         }
         Kind::Short => {
-            clear_columns(
-                &mut plain[336..394],
-                1,
-                58,
-                2 * limits::least(k - layout.short_delay(), 29),
-            );
+            let column = 2 * (k - layout.short_delay()).min(29);
+            plain[336 + column..394].fill(0.0);
         }
     }
 }
@@ -94,8 +80,7 @@ fn clear_plain(layout: Layout, k: usize, plain: &mut [f64])
 pub fn reset_plain(layout: Layout, k: usize, plain: &mut [f64])
     ensures { plain.new ≡ plain_reset layout k plain.old }
 {
-    if plain.len() != 394 {
-        return;
+    if plain.len() == 394 {
+        clear_plain(layout, k, plain);
     }
-    clear_plain(layout, k, plain);
 }

@@ -1,5 +1,6 @@
 -- Numbers set to 0 by the channels that they belong to: what stands where, and a loop that clears them in order. Assumes nothing.
-use Rattle.std.proofs.Common.{◌≡◌, ℕ, ◌+◌, ◌<◌, ◌≤◌, Bool, true, false, cond, ltb, leb, List, length, get_or, set, sym, refl, ap, ◌∙◌, arith, length-set, get_or-set_other, get_or-set_same, ext_get_or, ltb-false, ltb-true, le-leb, leb-false, leb-true}
+use Rattle.std.proofs.Common.{◌≡◌, ℕ, ◌+◌, ◌<◌, ◌≤◌, Bool, true, false, cond, ltb, leb, List, length, get_or, set, sym, refl, ap, ◌∙◌, arith, replicate, length-set, get_or-set_other, get_or-set_same, ext_get_or, ltb-false, ltb-true, le-leb, leb-false, leb-true}
+use Rattle.std.proofs.lemmas.List.{length-replicate, get_or-replicate}
 use borrow.Author.Tests.{lt-leb}
 use lib.Ieee.{Float, nan}
 use Rattle.lists.proofs.Maps.{tabulate_length, tabulate_at}
@@ -42,6 +43,11 @@ module _ (owner : ℕ → ℕ) (k : ℕ) (xs : List Float) where
   pub silenced_is : (l : List Float) → length l ≡ length xs → ((m : ℕ) → m < length xs → k ≤ owner m → get_or l m nan ≡ zero)
       → ((m : ℕ) → m < length xs → owner m < k → get_or l m nan ≡ get_or xs m nan) → l ≡ silenced_from owner k xs
   silenced_is l long cleared kept = silenced_all (length xs) l (record { long = long; cleared = cleared; kept = kept }) (omega arith)
+
+-- all of them are cleared
+pub silenced_whole : (owner : ℕ → ℕ) (xs : List Float) (v : Float) → v ≡ zero → replicate (length xs) v ≡ silenced_from owner 0 xs
+silenced_whole owner xs v e =
+    silenced_is owner 0 xs (replicate (length xs) v) (length-replicate (length xs) v) (λ m u h. get_or-replicate (length xs) m v nan u ∙ e) (λ m u h. absurd (omega arith))
 
 module _ {owner : ℕ → ℕ} {k n : ℕ} {xs l : List Float} (s : Silenced owner k xs n l) where
   -- places of other channels are passed

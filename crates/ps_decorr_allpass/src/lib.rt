@@ -30,6 +30,7 @@ fn rotation(table: &[i64], k: usize, place: usize) -> Complex
 fn at_least_zero(x: f64) -> f64
     ensures { result ≡ (if lt x numbers.zero then numbers.zero else x) }
 {
+    // Kept: f64's max answers 0 where x is a NaN, and may answer 0 for -0, where the definition, standard Channel `decay`, has x.
     if x < 0.0 { 0.0 } else { x }
 }
 
@@ -74,11 +75,9 @@ pub fn chain(layout: Layout, k: usize, table: &[i64]) -> Chain
 pub fn silence(xs: &mut [f64], lane: usize)
     ensures { xs.new ≡ silenced_from (λ m. m % 4) lane xs.old }
 {
-    let mut m = 0;
-    while m < xs.len() {
+    for (m, x) in xs.iter_mut().enumerate() {
         if lane <= m % 4 {
-            xs[m] = 0.0;
+            *x = 0.0;
         }
-        m += 1;
     }
 }

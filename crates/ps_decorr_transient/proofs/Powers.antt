@@ -78,14 +78,15 @@ summed_more {k = k} r s low few =
 
 -- ---- all channels: those of the samples, then those of the input
 -- slot n of channel k where it stands in the frame
-sample_is : (samples : List Float) (k n : ℕ) → n < 32 → cell 32 samples (64 * k + n) ≡ sample_at samples n k
+sample_is : (samples : List Float) (k n : ℕ) → n < 32 → cell 32 samples (1 * n + 64 * k) ≡ sample_at samples n k
 sample_is samples k n u =
-    let behind : 64 * k + n + 32 ≡ 64 * k + (n + 32) = omega arith in
-    by_parts (sym (part_at _ 64 samples n nan (omega arith))) (ap (λ (i : ℕ). get_or samples i nan) behind ∙ sym (part_at _ 64 samples (n + 32) nan (omega arith)))
+    let here : 1 * n + 64 * k ≡ 64 * k + n = omega arith in
+    let behind : 1 * n + 64 * k + 32 ≡ 64 * k + (n + 32) = omega arith in
+    by_parts (ap (λ (i : ℕ). get_or samples i nan) here ∙ sym (part_at _ 64 samples n nan (omega arith))) (ap (λ (i : ℕ). get_or samples i nan) behind ∙ sym (part_at _ 64 samples (n + 32) nan (omega arith)))
 
 -- what each loop reads
 abbrev pub in_row : List Float → ℕ → ℕ → Complex
-in_row samples k n = cell 32 samples (64 * k + n)
+in_row samples k n = cell 32 samples (1 * n + 64 * k)
 
 abbrev pub in_column : List Float → ℕ → ℕ → ℕ → ℕ → Complex
 in_column input unsplit split k n = qmf_at input n (k + split - unsplit)
@@ -110,6 +111,3 @@ module _ (l : Layout) (samples input : List Float) (slots : ℕ) (few : slots �
 -- ---- a channel's band is one of the layout's
 pub band_within : (l : Layout) (map : List ℕ) (k : ℕ) → map ≡ parameter_map l → get_or map k 0 < bands_of l
 band_within l map k e = rw e (band_small l k)
-
-pub band_fits : (l : Layout) (map : List ℕ) (k : ℕ) → map ≡ parameter_map l → get_or map k 0 < 34
-band_fits l map k e = omega (arith, band_within l map k e, (bounds l).bands)

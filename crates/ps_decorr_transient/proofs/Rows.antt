@@ -8,7 +8,11 @@ use native.Mathlib.Omega.{arith}
 use borrow.Author.Tests.{ltb-true, ltb-false, eqb-true, eqb-false}
 use lib.Dec.{ltb, eqb}
 use lib.Ieee.{Float, nan}
-use lib.ListN.{length, get_or, set, length-set}
+use lib.ListN.{length, get_or, set, replicate, length-set, length-append, length-take, length-drop}
+use Rattle.std.proofs.lemmas.List.{length-replicate, get_or-replicate}
+use Rattle.lists.specs.Part.{part, put}
+use Rattle.lists.proofs.Parts.{part_length, put_before, put_within, put_behind}
+use Rattle.standard.specs.Numbers.{zero}
 use lib.Seq.{get_or-set_same, get_or-set_other, ext_get_or}
 use Rattle.lists.specs.Rows.{tabulate}
 use Rattle.lists.proofs.Maps.{tabulate_length, tabulate_at}
@@ -95,6 +99,36 @@ pub rowed_more : {b n : ℕ} {new : ℕ → ℕ → Float} {old l : List Float} 
     → Rowed b (b + 1) (n + 1) new old (set l i v)
 rowed_more {b} {n} {new} {l = l} r i v place e few room =
     rowed_slot r few (slotted_more (slotted_none b n (λ j. new j n) l) (b + 1) i v refl place e (omega arith) few (omega (arith, r.long)))
+
+-- the front of one row filled
+pub rowed_filled : (b slots a w : ℕ) (v : Float) (l ys : List Float) → v ≡ zero → a ≡ 32 * b → w ≡ slots → slots ≤ 32 → a + w ≤ length l → ys ≡ replicate (length (part a w l)) v
+    → Rowed b (b + 1) slots (λ b n. zero) l (put a w l ys)
+rowed_filled b slots a w v l ys z place wide few room filled =
+    record {
+      long = simp (length-append, length-take, length-drop, long) (omega arith);
+      inside = λ j n g h u.
+          let here : 32 * j + n ≡ a + n = omega arith in
+          ap (λ (i : ℕ). get_or (put a w l ys) i nan) here ∙ put_within a w l ys (omega arith) n nan (omega (arith, long))
+          ∙ ap (λ (xs : List Float). get_or xs n nan) is ∙ get_or-replicate w n v nan (omega arith) ∙ z;
+      outside = λ j n u o. go j n u o (ltb (32 * j + n) a) refl;
+    }
+  where
+    is : ys ≡ replicate w v
+    is = filled ∙ ap (λ (n : ℕ). replicate n v) (part_length a w l room)
+
+    long : length ys ≡ w
+    long = ap length is ∙ length-replicate w v
+
+    go : (j n : ℕ) → n < 32 → (b ≤ j → j < b + 1 → n < slots → ⊥) → (t : Bool) → ltb (32 * j + n) a ≡ t → get_or (put a w l ys) (32 * j + n) nan ≡ get_or l (32 * j + n) nan
+    go j n u o true e = put_before a w l ys (omega arith) (32 * j + n) nan (ltb-true (32 * j + n) a e)
+    go j n u o false e = behind (ltb (32 * j + n) (a + w)) refl
+      where
+        behind : (t : Bool) → ltb (32 * j + n) (a + w) ≡ t → get_or (put a w l ys) (32 * j + n) nan ≡ get_or l (32 * j + n) nan
+        behind true f =
+            let from : a ≤ 32 * j + n = ltb-false (32 * j + n) a e in
+            let below : 32 * j + n < a + w = ltb-true (32 * j + n) (a + w) f in
+            absurd (o (omega (arith, from, below)) (omega (arith, from, below)) (omega (arith, from, below)))
+        behind false f = put_behind a w l ys (omega arith) (32 * j + n) nan long (ltb-false (32 * j + n) (a + w) f)
 
 -- two writers of the same places: the last one stays
 pub rowed_then : {first last slots : ℕ} {new newer : ℕ → ℕ → Float} {old l next : List Float} → Rowed first last slots new old l → Rowed first last slots newer l next → Rowed first last slots newer old next

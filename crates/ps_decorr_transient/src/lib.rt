@@ -2,11 +2,10 @@
 // until its detector has gone over them.
 #![tactic(auto)]
 
-ghost use Rattle.std.specs.Prelude.{◌≡◌, cond, ◌+◌, ◌*◌, ◌<◌, ◌≤◌, min, length};
+ghost use Rattle.std.specs.Prelude.{ℕ, ◌≡◌, cond, ◌+◌, ◌*◌, ◌<◌, ◌≤◌, min, length};
 ghost use Rattle.std.specs.Float.Ieee.{lt};
 ghost use Rattle.layout.specs.Numbers.{bands_of, unsplit_from_of};
 ghost use Rattle.planar.specs.Cells.{cell};
-ghost use Rattle.planar.specs.Frame.{qmf_at};
 ghost use Rattle.standard.specs.Numbers.{zero, one, ◌⊘◌};
 ghost use Rattle.standard.specs.Detector.{detector_after, ducking};
 ghost use Rattle.ps_decorr_transient.specs.Gains.{detector_of, power_at, detectors_after, gains_after};
@@ -17,6 +16,7 @@ use layout::Layout;
 fn larger(a: f64, b: f64) -> f64
     ensures { result ≡ cond (lt a b) b a }
 {
+    // Kept: f64's max answers the other number where one is a NaN; the definition, standard Detector `detector_after`, keeps a.
     if a < b { b } else { a }
 }
 
@@ -27,49 +27,32 @@ fn share(power: f64, whole: f64) -> f64
     if power < whole { power / whole } else { 1.0 }
 }
 
-fn clear_row(gains: &mut [f64], b: usize, slots: usize)
-    requires { (32 * b + 32 ≤ length gains.old) × (slots ≤ 32) }
-    ensures { Rowed b (b + 1) slots (λ i n. zero) gains.old gains.new }
-{
-    let at = 32 * b;
-    for n in 0..slots {
-        gains[at + n] = 0.0;
-    }
-}
-
 fn clear(gains: &mut [f64], bands: usize, slots: usize)
     requires { (32 * bands ≤ length gains.old) × (slots ≤ 32) }
     ensures { Rowed 0 bands slots (λ b n. zero) gains.old gains.new }
 {
     for b in 0..bands {
-        clear_row(gains, b, slots);
+        gains[32 * b..32 * b + slots].fill(0.0);
     }
 }
 
-// The power of a channel added to its band's.
-fn add_row(gains: &mut [f64], b: usize, samples: &[f64], from: usize, slots: usize)
-    requires { (32 * b + 32 ≤ length gains.old) × (slots ≤ 32) × (from + slots + 32 ≤ length samples.now) }
-    ensures { Rowed b (b + 1) slots (added gains.old (λ n. cell 32 samples.now (from + n))) gains.old gains.new }
+// The power of a channel added to its band's. Its slots are STEP numbers apart, their imaginary parts APART behind the real ones.
+fn add_channel<const STEP: usize, const APART: usize>(
+    gains: &mut [f64],
+    b: usize,
+    samples: &[f64],
+    from: usize,
+    slots: usize,
+)
+    requires { (32 * b + 32 ≤ length gains.old) × (slots ≤ 32) × ((n : ℕ) → n < slots → STEP * n + from + APART < length samples.now) }
+    ensures { Rowed b (b + 1) slots (added gains.old (λ n. cell APART samples.now (STEP * n + from))) gains.old gains.new }
 {
     let at = 32 * b;
     for n in 0..slots {
-        let re = samples[from + n];
-        let im = samples[from + n + 32];
-        gains[at + n] = gains[at + n] + (re * re + im * im);
-    }
-}
-
-// The same of a channel that is a QMF band, whose slots are rows of the input apart.
-fn add_column(gains: &mut [f64], b: usize, input: &[f64], q: usize, slots: usize)
-    requires { (32 * b + 32 ≤ length gains.old) × (slots ≤ 32) × ((q < 64) × (128 * slots ≤ length input.now)) }
-    ensures { Rowed b (b + 1) slots (added gains.old (λ n. qmf_at input.now n q)) gains.old gains.new }
-{
-    let at = 32 * b;
-    for n in 0..slots {
-        let place = 128 * n + 2 * q;
-        let re = input[place];
-        let im = input[place + 1];
-        gains[at + n] = gains[at + n] + (re * re + im * im);
+        let place = STEP * n + from;
+        let re = samples[place];
+        let im = samples[place + APART];
+        gains[at + n] += re * re + im * im;
     }
 }
 
@@ -85,12 +68,11 @@ fn add_powers(layout: Layout, samples: &[f64], input: &[f64], slots: usize, gain
     let split = layout.split();
     let channels = layout.channels();
     for k in 0..unsplit {
-        let b = map[k] as usize;
-        add_row(gains, b, samples, 64 * k, slots);
+        add_channel::<1, 32>(gains, usize::from(map[k]), samples, 64 * k, slots);
     }
     for k in unsplit..channels {
-        let b = map[k] as usize;
-        add_column(gains, b, input, k + split - unsplit, slots);
+        let q = k + split - unsplit;
+        add_channel::<128, 1>(gains, usize::from(map[k]), input, 2 * q, slots);
     }
 }
 
@@ -131,9 +113,9 @@ fn step(now: Follower, power: f64) -> Follower
     let smooth = now.smooth + factors.smoothing * (power - now.smooth);
     let difference = now.difference + factors.smoothing * (peak - power - now.difference);
     Follower {
-        peak: peak,
-        smooth: smooth,
-        difference: difference,
+        peak,
+        smooth,
+        difference,
     }
 }
 
@@ -190,14 +172,12 @@ fn duck_rows(detectors: &mut [f64], gains: &mut [f64], bands: usize, slots: usiz
     requires { (3 * bands ≤ length detectors.old) × (32 * bands ≤ length gains.old) × (slots ≤ 32) }
     ensures { Ducked 0 bands slots detectors.old gains.old detectors.new gains.new }
 {
-    let mut b = 0;
-    while b + 4 <= bands {
-        duck_four(detectors, b, gains, slots);
-        b += 4;
+    let fours = bands / 4;
+    for g in 0..fours {
+        duck_four(detectors, 4 * g, gains, slots);
     }
-    while b < bands {
+    for b in 4 * fours..bands {
         duck_row(detectors, b, gains, slots);
-        b += 1;
     }
 }
 
@@ -215,7 +195,7 @@ pub fn duck(
     ensures gains { gains.new ≡ gains_after layout detectors.old samples.now input.now gains.old (min slots 32) }
 {
     let bands = layout.bands();
-    let count = limits::least(slots, 32);
+    let count = slots.min(32);
     if input.len() < 128 * count {
         return;
     }

@@ -8,14 +8,13 @@ ghost use Rattle.calls.specs.Call.{buffers_fit, sample_fits, input_answer};
 
 use answer::Answer;
 
-// Every number is tried, without an early end: a loop without branches is the faster one.
+// Every number is tried, without an early end as `all` has it: a loop without branches is the faster one.
 fn samples_fit(samples: &[f64]) -> bool
     ensures { result ≡ all sample_fits samples.now }
 {
     let mut fit = true;
-    for i in 0..samples.len() {
-        let x = samples[i];
-        fit = fit & ((x <= 1048576.0) & (x >= -1048576.0));
+    for &x in samples {
+        fit &= (x <= 1048576.0) & (x >= -1048576.0);
     }
     fit
 }
@@ -42,10 +41,10 @@ pub fn input_answer(asked: usize, input: &[f64], left: usize, right: usize) -> A
 {
     let slots = borders::slots(asked);
     if !buffers_fit(slots, input.len(), left, right) {
-        return Answer::Buffers;
+        Answer::Buffers
+    } else if samples_fit(&input[..128 * (slots + 6)]) {
+        Answer::Done
+    } else {
+        Answer::Sample
     }
-    if samples_fit(&input[..128 * (slots + 6)]) {
-        return Answer::Done;
-    }
-    Answer::Sample
 }

@@ -1,63 +1,57 @@
 // The carried state of mixing (source document 000): the coefficients at the last border, and the history of phase indices.
 #![tactic(auto)]
 
-ghost use Rattle.std.specs.Prelude.{◌≡◌, ◌<◌, length};
+ghost use Rattle.std.specs.Prelude.{◌≡◌, ◌<◌};
 ghost use Rattle.ps_stereo.specs.State.{fresh_stereo, part_of, remapped_to, remapped_in};
 ghost use Rattle.ps_stereo.specs.Parts.{Scattered};
 
 use layout::Layout;
 
+// Eight numbers of each of 34 bands.
+pub const MATRICES: usize = 8 * 34;
+
+// Four phase indices of each.
+pub const PHASES: usize = 4 * 34;
+
 // For each band h11, h12, h21, h22 with their parts side by side; and for each band the oldest and the previous index of IPD, then those of OPD.
 #[derive(Clone, Copy)]
 pub struct PsStereo {
-    pub matrices: [f64; 272],
-    pub phases: [i8; 136],
+    pub matrices: [f64; MATRICES],
+    pub phases: [i8; PHASES],
 }
 
 pub fn fresh() -> PsStereo
     ensures { result ≡ fresh_stereo }
 {
     PsStereo {
-        matrices: [0.0; 272],
-        phases: [0i8; 136],
+        matrices: [0.0; MATRICES],
+        phases: [0; PHASES],
     }
 }
 
 // One of the eight numbers of every band.
-fn gathered(matrices: &[f64], c: usize) -> [f64; 34]
-    requires { (c < 8) × (length matrices.now ≡ 272) }
+fn gathered(matrices: &[f64; MATRICES], c: usize) -> [f64; 34]
+    requires { c < 8 }
     ensures { result ≡ part_of matrices.now c }
 {
-    let mut part = [0.0; 34];
-    let mut b = 0;
-    while b < 34 {
-        part[b] = matrices[8 * b + c];
-        b += 1;
-    }
-    part
+    std::array::from_fn(|b| matrices[8 * b + c])
 }
 
-fn scatter(part: &[f64; 34], c: usize, matrices: &mut [f64])
-    requires { (c < 8) × (length matrices.old ≡ 272) }
+fn scatter(part: &[f64; 34], c: usize, matrices: &mut [f64; MATRICES])
+    requires { c < 8 }
     ensures { Scattered c part.now 34 matrices.old matrices.new }
 {
-    let mut b = 0;
-    while b < 34 {
-        matrices[8 * b + c] = part[b];
-        b += 1;
+    for (b, x) in part.iter().enumerate() {
+        matrices[8 * b + c] = *x;
     }
 }
 
-fn remap_each(layout: Layout, matrices: &mut [f64])
-    requires { length matrices.old ≡ 272 }
+fn remap_each(layout: Layout, matrices: &mut [f64; MATRICES])
     ensures { matrices.new ≡ remapped_to layout matrices.old }
 {
-    let mut c = 0;
-    while c < 8 {
-        let part = gathered(matrices, c);
-        let mapped = ps_map::map_coefficients(part, layout);
+    for c in 0..8 {
+        let mapped = ps_map::map_coefficients(gathered(matrices, c), layout);
         scatter(&mapped, c, matrices);
-        c += 1;
     }
 }
 
@@ -65,8 +59,7 @@ fn remap_each(layout: Layout, matrices: &mut [f64])
 pub fn remap(layout: Layout, matrices: &mut [f64])
     ensures { matrices.new ≡ remapped_in layout matrices.old }
 {
-    if matrices.len() != 272 {
-        return;
+    if let Some(all) = matrices.as_mut_array::<MATRICES>() {
+        remap_each(layout, all);
     }
-    remap_each(layout, matrices);
 }

@@ -1,7 +1,7 @@
 // The coefficients of every band at every border of a frame (source document 000, §8.6.4.6.2 and §8.6.4.6.3).
 #![tactic(auto)]
 
-ghost use Rattle.std.specs.Prelude.{◌≡◌, ◌*◌, ◌≤◌, length};
+ghost use Rattle.std.specs.Prelude.{◌*◌, ◌≤◌, ◌≡◌, length};
 ghost use Rattle.calls.specs.Call.{modes_of};
 ghost use Rattle.layout.specs.Numbers.{bands_of};
 ghost use Rattle.limits.specs.Limits as limits;
@@ -13,15 +13,6 @@ use layout::Layout;
 use ps_data::PsIndices;
 use standard::Modes;
 
-fn eight(from: &[f64], to: &mut [f64])
-    requires { (length from.now ≡ 8) × (length to.old ≡ 8) }
-    ensures { to.new ≡ from.now }
-{
-    for i in 0..8 {
-        to[i] = from[i];
-    }
-}
-
 // Eight numbers of each band, from a place of its run in one list to the front of its run in another.
 fn copy(bands: usize, from: &[f64], run: usize, at: usize, to: &mut [f64], wide: usize)
     requires { Room bands run at wide (length from.now) (length to.old) }
@@ -30,7 +21,7 @@ fn copy(bands: usize, from: &[f64], run: usize, at: usize, to: &mut [f64], wide:
     for b in 0..bands {
         let source = run * b + at;
         let target = wide * b;
-        eight(&from[source..source + 8], &mut to[target..target + 8]);
+        to[target..target + 8].copy_from_slice(&from[source..source + 8]);
     }
 }
 
@@ -38,10 +29,9 @@ fn copy(bands: usize, from: &[f64], run: usize, at: usize, to: &mut [f64], wide:
 fn modes_of(header: Header) -> Modes
     ensures { result ≡ modes_of header }
 {
-    let config = header.config;
     Modes {
-        fine: config.fine(),
-        rb: config.rb(),
+        fine: header.config.fine(),
+        rb: header.config.rb(),
         phase: header.phase,
     }
 }
@@ -61,9 +51,8 @@ fn envelopes(
 {
     let coefficients = mixing_table::table();
     let modes = modes_of(header);
-    let config = header.config;
     for e in 0..count {
-        let cues = ps_stereo_cues::cues(indices, config, layout, e);
+        let cues = ps_stereo_cues::cues(indices, header.config, layout, e);
         ps_stereo_envelope::envelope(
             &coefficients,
             directions,
@@ -103,7 +92,7 @@ pub fn coefficients(
         return;
     }
     copy(bands, matrices, 8, 0, rows, limits::COURSE);
-    let count = limits::least(header.envelopes as usize, limits::ENVELOPES);
+    let count = usize::from(header.envelopes).min(limits::ENVELOPES);
     if count == 0 {
         return;
     }

@@ -28,25 +28,20 @@ struct Indices {
 fn natural(index: i32) -> usize
     ensures { result ≡ natural_of index }
 {
-    if index < 0 { 0 } else { index as usize }
+    usize::try_from(index).unwrap_or(0)
 }
 
 fn natural_index(index: i8) -> usize
     ensures { result ≡ natural_of index }
 {
-    natural(index as i32)
+    natural(i32::from(index))
 }
 
 // An IID index counts from -7 or, on the fine grid, from -15.
 fn level(fine: bool, iid: i8) -> usize
     ensures { result ≡ level_of fine iid }
 {
-    let index = iid as i32;
-    if fine {
-        natural(index + 15)
-    } else {
-        natural(index + 7)
-    }
+    natural(i32::from(iid) + if fine { 15 } else { 7 })
 }
 
 // A band's coefficients before phase.
@@ -112,8 +107,7 @@ fn matrix(
     ensures { result ≡ matrix_at coefficients.now directions.now modes (cue_in indices) phases.now }
 {
     let h = base(coefficients, modes, indices);
-    let phase = modes.phase;
-    if !phase {
+    if !modes.phase {
         return h;
     }
     let opd = direction(directions, &phases[2..4], indices.opd);
@@ -125,14 +119,9 @@ fn store(h: Matrix, out: &mut [f64])
     requires { length out.old ≡ 8 }
     ensures { out.new ≡ numbers_of h }
 {
-    out[0] = h.h11.re;
-    out[1] = h.h11.im;
-    out[2] = h.h12.re;
-    out[3] = h.h12.im;
-    out[4] = h.h21.re;
-    out[5] = h.h21.im;
-    out[6] = h.h22.re;
-    out[7] = h.h22.im;
+    out.copy_from_slice(&[
+        h.h11.re, h.h11.im, h.h12.re, h.h12.im, h.h21.re, h.h21.im, h.h22.re, h.h22.im,
+    ]);
 }
 
 // In a frame with phase the previous index of each kind becomes the oldest, the current one the previous.
@@ -140,17 +129,10 @@ fn shift(phase: bool, indices: Indices, phases: &mut [i8])
     requires { length phases.old ≡ 4 }
     ensures { phases.new ≡ phases_then phase (cue_in indices) phases.old }
 {
-    if !phase {
-        return;
+    if phase {
+        let (ipd, opd) = (phases[1], phases[3]);
+        phases.copy_from_slice(&[ipd, indices.ipd, opd, indices.opd]);
     }
-    let ipd_before = phases[1];
-    let opd_before = phases[3];
-    let ipd = indices.ipd;
-    let opd = indices.opd;
-    phases[0] = ipd_before;
-    phases[1] = ipd;
-    phases[2] = opd_before;
-    phases[3] = opd;
 }
 
 // The bands of a layout, one after the other.

@@ -31,7 +31,7 @@ pub struct Timing {
 fn after(border: u8) -> u16
     ensures { (result ≡ border + 1) × (result ≤ 256) }
 {
-    border as u16 + 1
+    u16::from(border) + 1
 }
 
 // The first slot after the border before envelope e.
@@ -45,45 +45,24 @@ fn first_slot(borders: [u8; limits::ENVELOPES], e: usize) -> u16
     after(borders[e - 1])
 }
 
-// From b to a, 0 where b is above a.
-fn above(a: u16, b: u16) -> u16
-    ensures { result ≡ a - b }
-{
-    if a < b { 0 } else { a - b }
-}
-
-fn at_least_one(a: u16) -> u16
-    ensures { result ≡ max 1 a }
-{
-    if a < 1 { 1 } else { a }
-}
-
 fn fraction_of(borders: [u8; limits::ENVELOPES], e: usize, n: usize) -> f64
     requires { (e < limits.envelopes) × (n < 32) }
     ensures { result ≡ fraction borders e n }
 {
     let first = first_slot(borders, e);
-    let passed = above(n as u16 + 1, first);
-    let size = at_least_one(above(after(borders[e]), first));
-    (passed as f64) / (size as f64)
-}
-
-fn fill(borders: [u8; limits::ENVELOPES], count: usize, out: &mut [f64])
-    requires { (count ≤ limits.envelopes) × (length out.old ≡ limits.fractions) }
-    ensures { out.new
-        ≡ tabulate (λ i. cond (ltb i (32 * count)) (fraction borders (i / 32) (i % 32)) (get_or out.old i nan)) limits.fractions }
-{
-    for i in 0..32 * count {
-        out[i] = fraction_of(borders, i / 32, i % 32);
-    }
+    let passed = (n as u16 + 1).saturating_sub(first);
+    let size = after(borders[e]).saturating_sub(first).max(1);
+    f64::from(passed) / f64::from(size)
 }
 
 // How far each slot lies on its way from border to border, the same for every band: made once a frame.
 pub fn fractions(borders: [u8; limits::ENVELOPES], count: usize, out: &mut [f64; limits::FRACTIONS])
     ensures { out.new ≡ fractions_after borders count out.old }
 {
-    let envelopes = limits::least(count, limits::ENVELOPES);
-    fill(borders, envelopes, out);
+    let envelopes = count.min(limits::ENVELOPES);
+    for i in 0..32 * envelopes {
+        out[i] = fraction_of(borders, i / 32, i % 32);
+    }
 }
 
 // The last envelope that a frame can have.
@@ -93,8 +72,7 @@ const LAST: usize = limits::ENVELOPES - 1;
 pub fn share_in(timing: Timing, e: usize, n: usize) -> f64
     ensures { result ≡ fraction timing.borders (min e (limits.envelopes - 1)) (min n 31) }
 {
-    let borders = timing.borders;
-    fraction_of(borders, limits::least(e, LAST), limits::least(n, 31))
+    fraction_of(timing.borders, e.min(LAST), n.min(31))
 }
 
 // ---- where a slot lies
@@ -104,47 +82,42 @@ fn lies_in(borders: [u8; limits::ENVELOPES], e: usize, n: usize) -> bool
     requires { (e < limits.envelopes) × (n < 32) }
     ensures { result ≡ in_region borders e n }
 {
-    if (n as u16) < first_slot(borders, e) {
-        return false;
-    }
-    n <= borders[e] as usize
+    usize::from(first_slot(borders, e)) <= n && n <= usize::from(borders[e])
 }
 
 // The last of the first envelopes whose region has slot n.
-fn region_below(borders: [u8; limits::ENVELOPES], count: usize, n: usize) -> u8
+fn region_below(borders: [u8; limits::ENVELOPES], count: usize, n: usize) -> usize
     requires { (count ≤ limits.envelopes) × (n < 32) }
     ensures { result ≡ region_below borders n count }
 {
-    let mut e = count;
-    while 0 < e {
-        e -= 1;
+    for e in (0..count).rev() {
         if lies_in(borders, e, n) {
-            return e as u8;
+            return e;
         }
     }
     0
 }
 
 // The same, or how many envelopes there are where their borders have passed.
-fn region_at(borders: [u8; limits::ENVELOPES], count: usize, n: usize) -> u8
+fn region_at(borders: [u8; limits::ENVELOPES], count: usize, n: usize) -> usize
     requires { (count ≤ limits.envelopes) × (n < 32) }
     ensures { result ≡ region_of borders count n }
 {
-    if 0 < count {
-        if n <= borders[count - 1] as usize {
-            return region_below(borders, count, n);
-        }
+    if 0 < count && n <= usize::from(borders[count - 1]) {
+        return region_below(borders, count, n);
     }
-    count as u8
+    count
 }
 
 // The region of slot n, which is one of 32: the last envelope whose region has it, or how many envelopes there are behind their borders.
 pub fn region_in(timing: Timing, n: usize) -> usize
     ensures { result ≡ region_of timing.borders (min timing.count limits.envelopes) (min n 31) }
 {
-    let borders = timing.borders;
-    let count = limits::least(timing.count, limits::ENVELOPES);
-    limits::wide(region_at(borders, count, limits::least(n, 31)))
+    region_at(
+        timing.borders,
+        timing.count.min(limits::ENVELOPES),
+        n.min(31),
+    )
 }
 
 // ---- coefficients
@@ -154,27 +127,23 @@ fn matrix(numbers: &[f64]) -> Matrix
     requires { length numbers.now ≡ 8 }
     ensures { result ≡ kept_matrix numbers.now }
 {
-    let a = Complex {
-        re: numbers[0],
-        im: numbers[1],
-    };
-    let b = Complex {
-        re: numbers[2],
-        im: numbers[3],
-    };
-    let c = Complex {
-        re: numbers[4],
-        im: numbers[5],
-    };
-    let d = Complex {
-        re: numbers[6],
-        im: numbers[7],
-    };
     Matrix {
-        h11: a,
-        h12: b,
-        h21: c,
-        h22: d,
+        h11: Complex {
+            re: numbers[0],
+            im: numbers[1],
+        },
+        h12: Complex {
+            re: numbers[2],
+            im: numbers[3],
+        },
+        h21: Complex {
+            re: numbers[4],
+            im: numbers[5],
+        },
+        h22: Complex {
+            re: numbers[6],
+            im: numbers[7],
+        },
     }
 }
 
@@ -189,75 +158,67 @@ fn matrix_at(rows: &[f64], at: usize) -> Matrix
 fn step(from: Matrix, to: Matrix) -> Matrix
     ensures { result ≡ step_of from to }
 {
-    let a = to.h11.sub(from.h11);
-    let b = to.h12.sub(from.h12);
-    let c = to.h21.sub(from.h21);
-    let d = to.h22.sub(from.h22);
     Matrix {
-        h11: a,
-        h12: b,
-        h21: c,
-        h22: d,
+        h11: to.h11.sub(from.h11),
+        h12: to.h12.sub(from.h12),
+        h21: to.h21.sub(from.h21),
+        h22: to.h22.sub(from.h22),
     }
 }
 
-// from + step t, in a slot.
-fn put_step(out: &mut [f64], n: usize, from: Matrix, step: Matrix, t: f64)
-    requires { (length out.old ≡ 256) × (n < 32) }
-    ensures { out.new ≡ stored_matrix out.old n (stepped from step t) }
+// from + step t.
+fn stepped(from: Matrix, step: Matrix, t: f64) -> Matrix
+    ensures { result ≡ stepped from step t }
 {
-    let a = from.h11;
-    let b = from.h12;
-    let c = from.h21;
-    let d = from.h22;
-    let p = step.h11;
-    let q = step.h12;
-    let r = step.h21;
-    let s = step.h22;
-    out[n] = a.re + p.re * t;
-    out[n + 32] = a.im + p.im * t;
-    out[64 + n] = b.re + q.re * t;
-    out[64 + n + 32] = b.im + q.im * t;
-    out[128 + n] = c.re + r.re * t;
-    out[128 + n + 32] = c.im + r.im * t;
-    out[192 + n] = d.re + s.re * t;
-    out[192 + n + 32] = d.im + s.im * t;
+    Matrix {
+        h11: from.h11.add(step.h11.scale(t)),
+        h12: from.h12.add(step.h12.scale(t)),
+        h21: from.h21.add(step.h21.scale(t)),
+        h22: from.h22.add(step.h22.scale(t)),
+    }
 }
 
-fn put(out: &mut [f64], n: usize, h: Matrix)
-    requires { (length out.old ≡ 256) × (n < 32) }
+// A band's coefficients in 32 slots: four runs, each of real and then imaginary parts.
+pub const RUNS: usize = 256;
+
+// A slot's coefficients to their places in the runs.
+fn put(out: &mut [f64; RUNS], n: usize, h: Matrix)
+    requires { n < 32 }
     ensures { out.new ≡ stored_matrix out.old n h }
 {
-    let a = h.h11;
-    let b = h.h12;
-    let c = h.h21;
-    let d = h.h22;
-    out[n] = a.re;
-    out[n + 32] = a.im;
-    out[64 + n] = b.re;
-    out[64 + n + 32] = b.im;
-    out[128 + n] = c.re;
-    out[128 + n + 32] = c.im;
-    out[192 + n] = d.re;
-    out[192 + n + 32] = d.im;
+    out[n] = h.h11.re;
+    out[n + 32] = h.h11.im;
+    out[64 + n] = h.h12.re;
+    out[64 + n + 32] = h.h12.im;
+    out[128 + n] = h.h21.re;
+    out[128 + n + 32] = h.h21.im;
+    out[192 + n] = h.h22.re;
+    out[192 + n + 32] = h.h22.im;
 }
 
 // ---- slots
 
 // The slots from `first` to before `end`, on the way from one border's coefficients to the next one's.
-fn region(from: Matrix, to: Matrix, fractions: &[f64], first: usize, end: usize, out: &mut [f64])
-    requires { (length fractions.now ≡ 32) × (end ≤ 32) × (length out.old ≡ 256) }
+fn region(
+    from: Matrix,
+    to: Matrix,
+    fractions: &[f64],
+    first: usize,
+    end: usize,
+    out: &mut [f64; RUNS],
+)
+    requires { (length fractions.now ≡ 32) × (end ≤ 32) }
     ensures { Written first end (λ n. between from to (get_or fractions.now n nan)) out.old out.new }
 {
     let way = step(from, to);
     for n in first..end {
-        put_step(out, n, from, way, fractions[n]);
+        put(out, n, stepped(from, way, fractions[n]));
     }
 }
 
 // The same coefficients in each slot: never from + (from - from) t, which may round.
-fn hold(h: Matrix, first: usize, end: usize, out: &mut [f64])
-    requires { (end ≤ 32) × (length out.old ≡ 256) }
+fn hold(h: Matrix, first: usize, end: usize, out: &mut [f64; RUNS])
+    requires { end ≤ 32 }
     ensures { Written first end (λ n. h) out.old out.new }
 {
     for n in first..end {
@@ -269,30 +230,24 @@ fn hold(h: Matrix, first: usize, end: usize, out: &mut [f64])
 fn envelopes(
     rows: &[f64],
     at: usize,
-    fractions: &[f64],
+    fractions: &[f64; limits::FRACTIONS],
     borders: [u8; limits::ENVELOPES],
     count: usize,
     slots: usize,
-    out: &mut [f64],
+    out: &mut [f64; RUNS],
 )
-    requires course_in_bounds { (at + limits.course ≤ length rows.now) × (length fractions.now ≡ limits.fractions) }
-    requires count_le_envelopes { (count ≤ limits.envelopes) × (slots ≤ 32) × (length out.old ≡ 256) }
+    requires course_in_bounds { at + limits.course ≤ length rows.now }
+    requires count_le_envelopes { (count ≤ limits.envelopes) × (slots ≤ 32) }
     ensures { out.new ≡ matrix_runs (overwritten slots (λ n. cond (leb (start borders count) n) (row_matrix rows.now at count)
         (filled_by borders (fraction_at fractions.now) (row_matrix rows.now at) n count)) (matrix_at out.old)) }
 {
     let mut from = matrix_at(rows, at);
     let mut first = 0;
     for e in 0..count {
-        let next = after(borders[e]) as usize;
+        let next = usize::from(after(borders[e]));
         let to = matrix_at(rows, at + 8 * (e + 1));
-        region(
-            from,
-            to,
-            &fractions[32 * e..32 * e + 32],
-            first,
-            limits::least(next, slots),
-            out,
-        );
+        let way = &fractions[32 * e..32 * e + 32];
+        region(from, to, way, first, next.min(slots), out);
         from = to;
         first = next;
     }
@@ -307,7 +262,7 @@ pub fn interpolate(
     count: usize,
     band: usize,
     slots: usize,
-    out: &mut [f64; 256],
+    out: &mut [f64; RUNS],
 )
     ensures { out.new ≡ runs_after rows.now fractions.now borders count band (min slots 32) out.old }
 {
@@ -318,7 +273,6 @@ pub fn interpolate(
     if rows.len() < at + limits::COURSE {
         return;
     }
-    let used = limits::least(count, limits::ENVELOPES);
-    let slots = limits::least(slots, 32);
-    envelopes(rows, at, fractions, borders, used, slots, out);
+    let used = count.min(limits::ENVELOPES);
+    envelopes(rows, at, fractions, borders, used, slots.min(32), out);
 }

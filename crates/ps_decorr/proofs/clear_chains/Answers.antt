@@ -15,7 +15,8 @@ use Rattle.ps_decorr_allpass.specs.Memory.{owner_of, silenced_from}
 use Rattle.ps_decorr_allpass.proofs.Places.{owner_is}
 use Rattle.standard.specs.Numbers.{zero}
 use Rattle.ps_decorr_allpass.proofs.Silenced.{silenced_length, silenced_cleared, silenced_kept, silenced_is}
-use Rattle.ps_decorr.proofs.Silenced.{back_length, back_cleared, back_kept}
+use Rattle.standard.proofs.Literals.{zero_is}
+use Rattle.ps_decorr.proofs.Silenced.{filled, back_length, back_cleared, back_kept}
 use Rattle.ps_decorr.proofs.clear_chains.Goals as goal
 
 -- the channels of its own group and behind it, by their lanes
@@ -45,18 +46,24 @@ module _ (xs : List Float) (k n : ℕ) (room : 112 * (k / 4) + 112 ≤ length xs
   group_long : length group ≡ length xs
   group_long = back_length at n xs (λ m. m % 4) (k % 4) fits
 
+  abbrev rest : ℕ
+  rest = length group - (at + 112)
+
+  last : at + 112 + rest ≤ length group
+  last = omega (arith, group_long)
+
   abbrev behind : List Float
-  behind = silenced_from (λ m. m % length xs) (at + 112) group
+  behind = put (at + 112) rest group (silenced_from (λ m. m) 0 (part (at + 112) rest group))
 
   chains : behind ≡ silenced_from owner_of k xs
   chains =
-      silenced_is owner_of k xs behind (silenced_length _ _ group ∙ group_long) (λ m u h. cleared m u h (ltb m (at + 112)) refl)
+      silenced_is owner_of k xs behind (back_length (at + 112) rest group (λ m. m) 0 last ∙ group_long) (λ m u h. cleared m u h (ltb m (at + 112)) refl)
       (λ m u h.
       let v = behind_group k m h in
       left m u v ∙ back_kept at n xs (λ i. i % 4) (k % 4) fits m (λ a b. lane_kept k ((m - at) % 4) (rw (lane m a v) at h)))
     where
       left : (m : ℕ) → m < length xs → m < at + 112 → get_or behind m nan ≡ get_or group m nan
-      left m u v = silenced_kept _ (at + 112) group m (omega (arith, group_long)) (rw (mod-eq_of_lt u) v)
+      left m u v = back_kept (at + 112) rest group (λ m. m) 0 last m (λ a b. absurd (omega arith))
 
       lane : (m : ℕ) → at ≤ m → m < at + 112 → owner_of m ≡ 4 * (k / 4) + (m - at) % 4
       lane m a b =
@@ -68,11 +75,14 @@ module _ (xs : List Float) (k n : ℕ) (room : 112 * (k / 4) + 112 ≤ length xs
           let v = ltb-true m (at + 112) e in
           let a = before_group k m h in
           left m u v ∙ back_cleared at n xs (λ i. i % 4) (k % 4) fits m a (omega arith) (lane_cleared k ((m - at) % 4) (rw (lane m a v) at h))
-      cleared m u h false e = silenced_cleared _ (at + 112) group m (omega (arith, group_long)) (rw (mod-eq_of_lt u) (ltb-false m (at + 112) e))
+      cleared m u h false e = back_cleared (at + 112) rest group (λ m. m) 0 last m (ltb-false m (at + 112) e) (omega (arith, group_long)) (omega arith)
 
 pub returns : goal.returns
 returns c =
     let at = 112 * (c.args.k / 4) in
-    c.clear_columns-2.ensures
-    ∙ ap (λ (t : List Float). silenced_from (λ m. m % length c.args.delays.now) (at + 112) (put at (at + 112 - at) c.args.delays.now t)) c.clear_columns.ensures
+    let lanes : List Float → List Float = put at (at + 112 - at) c.args.delays.now in
+    let far : List Float → ℕ = λ g. length g - (at + 112) in
+    let own : List Float = lanes c.silence.new.xs in
+    ap (put (at + 112) (far own) own) (filled (at + 112) (far own) own _ _ zero_is (c.fill.ensures.after (search rules)))
+    ∙ ap (λ (t : List Float). put (at + 112) (far (lanes t)) (lanes t) (silenced_from (λ m. m) 0 (part (at + 112) (far (lanes t)) (lanes t)))) c.silence.ensures
     ∙ chains _ c.args.k _ c.requires (add-sub_cancel_left at 112)

@@ -16,11 +16,12 @@ use Rattle.layout.specs.Numbers.{all_pass_of, short_delay_of}
 use Rattle.layout.proofs.Bounds.{bounds}
 use Rattle.lists.specs.Part.{part, put}
 use Rattle.ps_decorr_allpass.specs.Memory.{silenced_from}
-use Rattle.ps_decorr_allpass.proofs.Silenced.{silenced_length, silenced_cleared, silenced_is}
+use Rattle.ps_decorr_allpass.proofs.Silenced.{silenced_whole, silenced_length, silenced_cleared, silenced_is}
 use Rattle.standard.specs.Numbers.{zero}
 use Rattle.ps_decorr.specs.State.{plain_owner}
 use Rattle.ps_decorr.proofs.Ranges.{Told, told}
-use Rattle.ps_decorr.proofs.Silenced.{back_length, back_cleared, back_kept}
+use Rattle.standard.proofs.Literals.{zero_is}
+use Rattle.ps_decorr.proofs.Silenced.{filled, back_length, back_cleared, back_kept}
 use Rattle.ps_decorr.proofs.clear_plain.Goals as goal
 
 module _ (l : Layout) (k : ℕ) (xs : List Float) (size : length xs ≡ 394) where
@@ -42,7 +43,7 @@ module _ (l : Layout) (k : ℕ) (xs : List Float) (size : length xs ≡ 394) whe
       off m u h true e = ring-kept m (ltb-true m 336 e) (rw e at h)
       off m u h false e = row_kept m (ltb-false m 336 e) u (rw e at h)
 
-  all : Told l k AllPass → silenced_from (λ m. m % 394) 0 xs ≡ silenced_from (plain_owner l) k xs
+  all : Told l k AllPass → silenced_from (λ m. m) 0 xs ≡ silenced_from (plain_owner l) k xs
   all h =
       by_place _ (silenced_length _ 0 xs) (λ m u v. silenced_cleared _ 0 xs m (omega arith) (omega arith)) (λ m b u v. silenced_cleared _ 0 xs m (omega arith) (omega arith))
       (λ m u v. absurd (omega arith)) (λ m b u v. absurd (omega (arith, (bounds l).short)))
@@ -54,7 +55,7 @@ module _ (l : Layout) (k : ℕ) (xs : List Float) (size : length xs ≡ 394) whe
     ring_length : length ring ≡ length xs
     ring_length = back_length 0 336 xs _ column (omega arith)
 
-    ring_and_row : Told l k Long → column ≡ 2 * (k - all_pass_of l) → put 336 58 ring (silenced_from (λ m. m % 58) 0 (part 336 58 ring)) ≡ silenced_from (plain_owner l) k xs
+    ring_and_row : Told l k Long → column ≡ 2 * (k - all_pass_of l) → put 336 58 ring (silenced_from (λ m. m) 0 (part 336 58 ring)) ≡ silenced_from (plain_owner l) k xs
     ring_and_row h is =
         by_place _ (back_length 336 58 ring _ 0 room ∙ ring_length)
         (λ m u v. outside m u ∙ back_cleared 0 336 xs _ column (omega arith) m (omega arith) (omega arith) (omega arith))
@@ -65,16 +66,20 @@ module _ (l : Layout) (k : ℕ) (xs : List Float) (size : length xs ≡ 394) whe
         room : 336 + 58 ≤ length ring
         room = omega (arith, ring_length)
 
-        outside : (m : ℕ) → m < 336 → get_or (put 336 58 ring (silenced_from (λ m. m % 58) 0 (part 336 58 ring))) m nan ≡ get_or ring m nan
+        outside : (m : ℕ) → m < 336 → get_or (put 336 58 ring (silenced_from (λ m. m) 0 (part 336 58 ring))) m nan ≡ get_or ring m nan
         outside m u = back_kept 336 58 ring _ 0 room m (λ a b. absurd (omega arith))
 
-    row : Told l k Short → column ≡ 2 * min (k - short_delay_of l) 29 → put 336 58 xs (silenced_from (λ m. m % 58) column (part 336 58 xs)) ≡ silenced_from (plain_owner l) k xs
-    row h is =
-        by_place _ (back_length 336 58 xs _ column (omega arith))
+    row : Told l k Short → column ≡ 2 * min (k - short_delay_of l) 29 → (at w : ℕ) → at ≡ 336 + column → at + w ≡ 394
+        → put at w xs (silenced_from (λ m. m) 0 (part at w xs)) ≡ silenced_from (plain_owner l) k xs
+    row h is at w from end =
+        by_place _ (back_length at w xs _ 0 room)
         (λ m u v. absurd (omega (arith, (bounds l).short)))
-        (λ m b u v. back_cleared 336 58 xs _ column (omega arith) m b (omega arith) (omega arith))
-        (λ m u v. back_kept 336 58 xs _ column (omega arith) m (λ a b. absurd (omega arith)))
-        (λ m b u v. back_kept 336 58 xs _ column (omega arith) m (λ a w. omega arith))
+        (λ m b u v. back_cleared at w xs _ 0 room m (omega arith) (omega arith) (omega arith))
+        (λ m u v. back_kept at w xs _ 0 room m (λ a b. absurd (omega arith)))
+        (λ m b u v. back_kept at w xs _ 0 room m (λ a b. absurd (omega arith)))
+      where
+        room : at + w ≤ length xs
+        room = omega arith
 
 pub overflow_sub-k : goal.overflow_sub-k
 overflow_sub-k c =
@@ -86,8 +91,8 @@ overflow_mul-k c =
     let is_long : Told c.args.layout c.args.k Long = told c.args.layout _ c.kind.ensures c.in-Long.is in
     omega (arith, is_long, c.all_pass.ensures, (bounds c.args.layout).short)
 
-pub clear_columns-requires-in-Long : goal.clear_columns-requires-in-Long
-clear_columns-requires-in-Long c =
+pub clear_ring-requires : goal.clear_ring-requires
+clear_ring-requires c =
     let is_long : Told c.args.layout c.args.k Long = told c.args.layout _ c.kind.ensures c.in-Long.is in
     (search rules, omega (arith, is_long, c.all_pass.ensures, (bounds c.args.layout).short))
 
@@ -99,21 +104,25 @@ overflow_sub-k-in-Short c =
 pub returns-in-AllPass : goal.returns-in-AllPass
 returns-in-AllPass c =
     let is_chain : Told c.args.layout c.args.k AllPass = told c.args.layout _ c.kind.ensures c.in-AllPass.is in
-    c.clear_columns.ensures ∙ all c.args.layout c.args.k _ c.requires is_chain
+    let xs = c.args.plain.now in
+    c.fill.ensures.after (search rules) ∙ silenced_whole (λ m. m) xs _ zero_is ∙ all c.args.layout c.args.k _ c.requires is_chain
 
 pub returns-in-Long : goal.returns-in-Long
 returns-in-Long c =
     let is_long : Told c.args.layout c.args.k Long = told c.args.layout _ c.kind.ensures c.in-Long.is in
     let xs = c.args.plain.now in
     let column = 2 * (c.args.k - c.all_pass.result) in
-    ap (put 336 58 (put 0 336 xs c.clear_columns-in-Long.new.xs)) c.clear_columns-in-Long-2.ensures
-    ∙ ap (λ (t : List Float). put 336 58 (put 0 336 xs t) (silenced_from (λ m. m % 58) 0 (part 336 58 (put 0 336 xs t)))) c.clear_columns-in-Long.ensures
+    let whole : List Float → List Float = put 0 336 xs in
+    ap (put 336 58 (whole c.clear_ring.new.ring)) (filled 336 58 (whole c.clear_ring.new.ring) _ _ zero_is (c.fill-in-Long.ensures.after (search rules)))
+    ∙ ap (λ (t : List Float). put 336 58 (whole t) (silenced_from (λ m. m) 0 (part 336 58 (whole t)))) c.clear_ring.ensures
     ∙ ring_and_row c.args.layout c.args.k xs c.requires column is_long (ap (λ (n : ℕ). 2 * (c.args.k - n)) c.all_pass.ensures)
 
 pub returns-in-Short : goal.returns-in-Short
 returns-in-Short c =
     let is_short : Told c.args.layout c.args.k Short = told c.args.layout _ c.kind.ensures c.in-Short.is in
     let xs = c.args.plain.now in
-    ap (put 336 58 xs) c.clear_columns-in-Short.ensures
-    ∙ row c.args.layout c.args.k xs c.requires _ is_short
-    (ap (λ (n : ℕ). 2 * n) (c.least.ensures ∙ ap (λ (n : ℕ). min (c.args.k - n) 29) c.short_delay.ensures))
+    let column = 2 * c.min-column.result in
+    let at = 336 + column in
+    let few : column ≡ 2 * min (c.args.k - short_delay_of c.args.layout) 29 = omega (arith, c.min-column.ensures, c.short_delay.ensures) in
+    ap (put at (394 - at) xs) (filled at (394 - at) xs _ _ zero_is (c.fill-in-Short.ensures.after (search rules)))
+    ∙ row c.args.layout c.args.k xs c.requires column is_short few at (394 - at) refl (omega (arith, few))

@@ -1,17 +1,24 @@
 -- `ps_decorr_transient::clear` meets its contract: each turn clears one row more. Assumes nothing.
-use mathlib.Core.Path.{◌≡◌}
+use mathlib.Core.Path.{◌≡◌, refl}
 use native.Mathlib.Omega.{arith}
-use Rattle.ps_decorr_transient.proofs.Rows.{rowed_none, rowed_and}
+use Rattle.std.proofs.Common.{ℕ, ◌+◌, ◌-◌, ◌*◌, rules}
+use Rattle.standard.proofs.Literals.{zero_is}
+use Rattle.ps_decorr_transient.proofs.Rows.{rowed_none, rowed_and, rowed_filled}
 use Rattle.ps_decorr_transient.proofs.clear.Goals as goal
 
 pub loop-b-init : goal.loop-b-init
-loop-b-init c = (omega arith, rowed_none _ _ _ _)
+loop-b-init c = rowed_none _ _ _ _
 
 pub loop-b-preserved : goal.loop-b-preserved
 loop-b-preserved c =
-    (omega arith, rowed_and c.loop-b.invariant.1 c.clear_row.ensures (omega arith) (omega arith) (omega arith))
+    let l = c.loop-b in
+    let slots = c.args.slots in
+    let w = 32 * l.b + slots - 32 * l.b in
+    rowed_and l.invariant
+    (rowed_filled l.b slots (32 * l.b) w _ l.gains _ zero_is refl (omega arith) (omega arith) (omega (arith, l.invariant.long)) (c.fill.ensures.after (search rules)))
+    (omega arith) (omega arith) (omega arith)
 
 pub returns : goal.returns
 returns c =
     let e : c.loop-b.b ≡ c.args.bands = omega arith in
-    rw e at c.loop-b.invariant.1
+    rw e at c.loop-b.invariant

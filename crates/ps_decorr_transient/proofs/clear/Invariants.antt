@@ -1,10 +1,6 @@
-use Prim.Native.Nat.{◌≤◌, ◌-◌}
 use Rattle.standard.specs.Numbers as numbers
 use Rattle.ps_decorr_transient.specs.Rows.{Rowed}
 use Rattle.ps_decorr_transient.proofs.clear.Given as goal
 
 abbrev pub invariant-loop-b : goal.invariant-loop-b
-invariant-loop-b l = (l.b ≤ l.bands) × Rowed 0 l.b l.slots (λ i n. numbers.zero) l.initial.gains l.gains
-
-abbrev pub decreases-loop-b : goal.decreases-loop-b
-decreases-loop-b l = l.bands - l.b
+invariant-loop-b l = Rowed 0 l.b l.slots (λ i n. numbers.zero) l.initial.gains l.gains

@@ -40,7 +40,7 @@ pub returns-then-input-count : goal.returns-then-input-count
 returns-then-input-count c =
     let s = c.args in
     let kept = nothing_changes s.layout s.detectors.now s.samples.now s.input.now s.gains.now (min s.slots 32)
-    (short_input s.layout s.detectors.now s.samples.now s.input.now s.gains.now (min s.slots 32) (rw c.least-count.ensures at c.if-input-count.true)) in
+    (short_input s.layout s.detectors.now s.samples.now s.input.now s.gains.now (min s.slots 32) (rw c.min-count.ensures at c.if-input-count.true)) in
     record { detectors = kept.0; gains = kept.1 }
 
 pub returns-then-samples-unsplit_from : goal.returns-then-samples-unsplit_from
@@ -48,7 +48,7 @@ returns-then-samples-unsplit_from c =
     let s = c.args in
     let kept = nothing_changes s.layout s.detectors.now s.samples.now s.input.now s.gains.now (min s.slots 32)
     (short_samples s.layout s.detectors.now s.samples.now s.input.now s.gains.now (min s.slots 32)
-    (rw c.least-count.ensures at c.if-input-count.false) (rw c.unsplit_from.ensures at c.if-samples-unsplit_from.true)) in
+    (rw c.min-count.ensures at c.if-input-count.false) (rw c.unsplit_from.ensures at c.if-samples-unsplit_from.true)) in
     record { detectors = kept.0; gains = kept.1 }
 
 pub returns-then-gains-bands : goal.returns-then-gains-bands
@@ -56,7 +56,7 @@ returns-then-gains-bands c =
     let s = c.args in
     let kept = nothing_changes s.layout s.detectors.now s.samples.now s.input.now s.gains.now (min s.slots 32)
     (short_gains s.layout s.detectors.now s.samples.now s.input.now s.gains.now (min s.slots 32)
-    (rw c.least-count.ensures at c.if-input-count.false) (rw c.unsplit_from.ensures at c.if-samples-unsplit_from.false)
+    (rw c.min-count.ensures at c.if-input-count.false) (rw c.unsplit_from.ensures at c.if-samples-unsplit_from.false)
     (rw c.bands-bands.ensures at c.if-gains-bands.true)) in
     record { detectors = kept.0; gains = kept.1 }
 
@@ -65,7 +65,7 @@ returns-then-detectors-bands c =
     let s = c.args in
     let kept = nothing_changes s.layout s.detectors.now s.samples.now s.input.now s.gains.now (min s.slots 32)
     (short_memory s.layout s.detectors.now s.samples.now s.input.now s.gains.now (min s.slots 32)
-    (rw c.least-count.ensures at c.if-input-count.false) (rw c.unsplit_from.ensures at c.if-samples-unsplit_from.false)
+    (rw c.min-count.ensures at c.if-input-count.false) (rw c.unsplit_from.ensures at c.if-samples-unsplit_from.false)
     (rw c.bands-bands.ensures at c.if-gains-bands.false) (rw c.bands-bands.ensures at c.if-detectors-bands.true)) in
     record { detectors = kept.0; gains = kept.1 }
 
@@ -73,7 +73,7 @@ pub returns : goal.returns
 returns c =
     let s = c.args in
     let e = c.bands-bands.ensures in
-    let n = c.least-count.ensures in
+    let n = c.min-count.ensures in
     let room = rw e at c.if-detectors-bands.false in
     let one = rw n at c.add_powers.ensures in
     let two = rw (e, n) at c.duck_rows.ensures in

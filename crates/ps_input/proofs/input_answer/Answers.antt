@@ -23,8 +23,8 @@ returns-then-samples_fit c =
     rw (← c.slots-slots.ensures)
     (accepted c.slots-slots.result a.input.now a.left a.right c.buffers_fit.result c.buffers_fit.ensures c.if-not-buffers_fit.false c.samples_fit.result c.samples_fit.ensures c.if-samples_fit.true)
 
-pub returns : goal.returns
-returns c =
+pub returns-else-samples_fit : goal.returns-else-samples_fit
+returns-else-samples_fit c =
     let a = c.args in
     rw (← c.slots-slots.ensures)
     (refused_sample c.slots-slots.result a.input.now a.left a.right c.buffers_fit.result c.buffers_fit.ensures c.if-not-buffers_fit.false c.samples_fit.result c.samples_fit.ensures c.if-samples_fit.false)

@@ -1,7 +1,7 @@
 -- `ps_stereo_borders::coefficients` meets its contract: lists without room stay, without envelopes only the kept coefficients are put in front, and the
 -- envelopes go on from them. Assumes nothing.
-use mathlib.Core.Path.{sym, ◌∙◌}
-use Prim.Native.Nat.{◌*◌, ◌<◌, ◌≤◌}
+use mathlib.Core.Path.{sym, ap, ◌∙◌}
+use Prim.Native.Nat.{ℕ, min, ◌*◌, ◌<◌, ◌≤◌}
 use native.Mathlib.Omega.{arith}
 use borrow.Author.Rules.{rules}
 use lib.ListN.{length}
@@ -45,7 +45,7 @@ returns-then-count-eq0 c =
     let room_rows : let a = c.args in limits.course * bands_of a.layout ≤ length a.rows.now = omega (arith, c.bands-bands.ensures, c.if-rows-bands.false) in
     let a = c.args in
     let after = fits.held a.layout a.header a.indices a.directions.now a.matrices.now a.phases.now a.rows.now room_matrices room_phases room_rows
-    c.bands-bands.ensures c.copy.ensures (sym c.if-count-eq0.true ∙ c.least-count.ensures) in
+    c.bands-bands.ensures c.copy.ensures (sym c.if-count-eq0.true ∙ c.min-count.ensures ∙ ap (λ (n : ℕ). min n limits.envelopes) c.from.ensures) in
     record { matrices = after.0; phases = after.1.0; rows = after.1.1 }
 
 pub returns : goal.returns
@@ -55,5 +55,5 @@ returns c =
     let room_rows : let a = c.args in limits.course * bands_of a.layout ≤ length a.rows.now = omega (arith, c.bands-bands.ensures, c.if-rows-bands.false) in
     let a = c.args in
     let after = fits.advanced a.layout a.header a.indices a.directions.now a.matrices.now a.phases.now a.rows.now room_matrices room_phases room_rows
-    c.bands-bands.ensures c.copy.ensures c.envelopes.ensures c.least-count.ensures c.copy-2.ensures in
+    c.bands-bands.ensures c.copy.ensures c.envelopes.ensures (c.min-count.ensures ∙ ap (λ (n : ℕ). min n limits.envelopes) c.from.ensures) c.copy-2.ensures in
     record { matrices = after.0; phases = after.1.0; rows = after.1.1 }

@@ -1,5 +1,5 @@
 -- `ps_stereo_borders::copy` meets its contract: a turn writes the front of one run. Assumes nothing.
-use mathlib.Core.Path.{◌≡◌, refl, ap, ◌∙◌}
+use mathlib.Core.Path.{◌≡◌, refl, sym, ap, ◌∙◌}
 use mathlib.Core.List.{List}
 use Prim.Native.Nat.{ℕ, ◌+◌, ◌*◌, ◌-◌, ◌<◌, ◌≤◌}
 use native.Mathlib.Nat.{add-zero, add-sub_cancel_left}
@@ -76,8 +76,11 @@ offset_bounds-from-source c =
     let below : a.run * c.loop-b.b + a.at < length a.from.now = omega (arith, source c.loop-b.invariant c.loop-b-test.true) in
     search rules
 
-pub slice_bounds-eight-end : goal.slice_bounds-eight-end
-slice_bounds-eight-end c = source c.loop-b.invariant c.loop-b-test.true
+pub slice_bounds-copy_from_slice-end : goal.slice_bounds-copy_from_slice-end
+slice_bounds-copy_from_slice-end c = omega (arith, target c.loop-b.invariant c.loop-b-test.true, c.loop-b.invariant.room.broad)
+
+pub slice_bounds-copy_from_slice-end-in-loop-b : goal.slice_bounds-copy_from_slice-end-in-loop-b
+slice_bounds-copy_from_slice-end-in-loop-b c = source c.loop-b.invariant c.loop-b-test.true
 
 pub overflow_add-target : goal.overflow_add-target
 overflow_add-target c =
@@ -92,16 +95,16 @@ offset_bounds-to-target c =
     let below : a.wide * c.loop-b.b < length a.to.now = omega (arith, target v c.loop-b-test.true, v.long, v.room.broad) in
     search rules
 
-pub eight-requires : goal.eight-requires
-eight-requires c =
-    (from_eight c.loop-b.invariant c.loop-b-test.true, to_eight c.loop-b.invariant c.loop-b-test.true)
+pub copy_from_slice-requires : goal.copy_from_slice-requires
+copy_from_slice-requires c =
+    to_eight c.loop-b.invariant c.loop-b-test.true ∙ sym (from_eight c.loop-b.invariant c.loop-b-test.true)
 
 pub loop-b-smaller : goal.loop-b-smaller
 loop-b-smaller c = less _ _ c.loop-b-test.true
 
 pub loop-b-preserved : goal.loop-b-preserved
 loop-b-preserved c =
-    next c.loop-b.invariant c.loop-b-test.true _ c.eight.ensures
+    next c.loop-b.invariant c.loop-b-test.true _ c.copy_from_slice.ensures.after
 
 pub shape_of-to : goal.shape_of-to
 shape_of-to c = c.loop-b.invariant.long
@@ -111,9 +114,3 @@ returns c =
     let v = c.loop-b.invariant in
     let all : c.loop-b.b ≡ c.args.bands = omega (arith, v.within, c.loop-b-test.false) in
     v.written.front.is ∙ rw all
-
--- not turned
--- part_end_2 : tie.Need-slice-bounds-eight-end-2 invariant-loop decreases-loop
--- part_end_2 c =
---     let t = c.before in
---     omega (arith, target t.before.loop.invariant t.loop-test.true, t.before.loop.invariant.room.broad)

@@ -35,8 +35,8 @@ loop-e-init c =
 pub loop-e-preserved : goal.loop-e-preserved
 loop-e-preserved c =
     let v = c.loop-e.invariant in
-    let phases_long : length c.envelope.new.phases ≡ length c.loop-e.phases = c.phases-1.given in
-    let rows_long : length c.envelope.new.rows ≡ length c.loop-e.rows = c.rows-1.given in
+    let phases_long : length c.envelope.new.phases ≡ length c.loop-e.phases = c.envelope.auto.phases in
+    let rows_long : length c.envelope.new.rows ≡ length c.loop-e.rows = c.envelope.auto.rows in
     record {
       within = omega (arith, c.loop-e-test.true);
       few = v.few;

@@ -29,7 +29,7 @@ pub record Inv (l : Layout) (indices : PsIndices) (count : ℕ) (directions phas
   pub rows_long : length rows ≡ length rows₀
 
 abbrev pub invariant-loop-e : goal.invariant-loop-e
-invariant-loop-e l = Inv l.layout l.indices l.count l.directions l.initial.phases l.initial.rows l.modes l.config l.phases l.rows l.e
+invariant-loop-e l = Inv l.layout l.indices l.count l.directions l.initial.phases l.initial.rows l.modes l.header.config l.phases l.rows l.e
 
 abbrev pub decreases-loop-e : goal.decreases-loop-e
 decreases-loop-e l = l.count - l.e

@@ -12,11 +12,11 @@ use Rattle.ps_stereo_envelope.specs.Loops.{cue_in}
 use Rattle.ps_stereo_envelope.proofs.Matrices.{without_phase, with_phase, in_half}
 use Rattle.ps_stereo_envelope.proofs.matrix.Goals as goal
 
-pub returns-then-not-phase : goal.returns-then-not-phase
-returns-then-not-phase c =
+pub returns-then-not-modes : goal.returns-then-not-modes
+returns-then-not-modes c =
     let a = c.args in
     c.base-h.ensures
-    ∙ without_phase a.coefficients.now a.directions.now a.modes (kept_of a.phases.now) (cue_in a.indices) (c.if-not-phase.true)
+    ∙ without_phase a.coefficients.now a.directions.now a.modes (kept_of a.phases.now) (cue_in a.indices) (not-true _ c.if-not-modes.true)
 
 pub direction-opd-requires : goal.direction-opd-requires
 direction-opd-requires c = part_length 2 2 c.args.phases.now (search rules)
@@ -32,6 +32,6 @@ returns c =
     let ipd_direction : c.direction-ipd.result ≡ direction_of a.directions.now (ipd_of a.phases.now 0) a.indices.ipd =
     c.direction-ipd.ensures ∙ rw (back w8 a.indices.ipd (search rules)) (in_half 0 a.directions.now a.phases.now a.indices.ipd) in
     c.rotated.ensures
-    ∙ with_phase a.coefficients.now a.directions.now a.modes (kept_of a.phases.now) (cue_in a.indices) (c.if-not-phase.false)
+    ∙ with_phase a.coefficients.now a.directions.now a.modes (kept_of a.phases.now) (cue_in a.indices) (not-false _ c.if-not-modes.false)
     c.base-h.result c.direction-opd.result c.direction-ipd.result
     c.base-h.ensures opd_direction ipd_direction

@@ -22,7 +22,7 @@ loop-e-init c =
       within = omega arith;
       coefficients = c.matrix_at-from.ensures ∙ ap (λ (k : ℕ). kept_matrix (part k 8 c.args.rows.now)) here;
       place = refl;
-      filled = filled_none _ _ _ _ _ c.requires.count_le_envelopes.2;
+      filled = filled_none _ _ _ _ _ (omega arith);
     }
 
 -- what is known lies too far back for the search
@@ -37,8 +37,8 @@ pub loop-e-preserved : goal.loop-e-preserved
 loop-e-preserved c =
     let s = c.args in
     let v = c.loop-e.invariant in
-    let next = c.after-next.ensures.0 in
-    let end = c.least.ensures ∙ ap (λ (k : ℕ). min k s.slots) next in
+    let next = c.from-next.ensures ∙ c.after.ensures.0 in
+    let end = c.min.ensures ∙ ap (λ (k : ℕ). min k s.slots) next in
     let lent = part (32 * c.loop-e.e) (32 * c.loop-e.e + 32 - 32 * c.loop-e.e) s.fractions.now in
     record {
       within = omega arith;
@@ -46,7 +46,7 @@ loop-e-preserved c =
       place = next ∙ start_next s.borders c.loop-e.e;
       filled =
           region_filled s.borders (fraction_at s.fractions.now) (row_matrix s.rows.now s.at) s.slots s.out.now _ v.filled c.loop-e.from
-          c.matrix_at-to.result lent c.loop-e.first c.least.result v.coefficients c.matrix_at-to.ensures v.place end
+          c.matrix_at-to.result lent c.loop-e.first c.min.result v.coefficients c.matrix_at-to.ensures v.place end
           (λ n u. lent_fraction s.fractions.now c.loop-e.e n u) c.region.ensures;
     }
 

@@ -4,17 +4,23 @@ use borrow.Author.Rules.{rules}
 use lib.ListN.{get_or}
 use Rattle.standard.specs.Interpolation.{fraction}
 use Rattle.standard.specs.Numbers.{◌⊘◌}
+use Prim.Native.Nat.{max}
+use mathlib.Core.Path.{◌≡◌}
+use native.Mathlib.Omega.{arith}
 use Rattle.ps_stereo_slots.proofs.fraction_of.Goals as goal
 
 pub returns : goal.returns
 unfolding fraction ◌⊘◌
 returns c =
     let g = c.args in
+    let some : c.max-size.result ≡ max 1 c.saturating_sub.result = omega (arith, c.max-size.ensures) in
     rw (
-      c.at_least_one-size.ensures,
-      c.above.ensures,
+      c.from.ensures,
+      c.from-2.ensures,
+      some,
+      c.saturating_sub.ensures,
       c.after.ensures.0,
-      c.above-passed.ensures,
+      c.saturating_sub-passed.ensures,
       c.first_slot-first.ensures.0,
       add-one g.n,
       add-one (get_or g.borders g.e 0),

@@ -9,7 +9,7 @@ use Rattle.ps_stereo_slots.proofs.Filled.{written_none, written_more, written_al
 use Rattle.ps_stereo_slots.proofs.hold.Goals as goal
 
 pub loop-n-init : goal.loop-n-init
-loop-n-init c = (omega arith, inl (omega arith), written_none _ _ _ c.requires.1)
+loop-n-init c = (omega arith, inl (omega arith), written_none _ _ _ (omega arith))
 
 pub loop-n-preserved : goal.loop-n-preserved
 loop-n-preserved c =

@@ -28,7 +28,7 @@ pub returns : goal.returns
 unfolding runs_after
 returns c =
     let s = c.args in
-    let few : c.least-used.result ≤ length s.borders = omega (arith, c.least-used.ensures, good_length (e_int w8) limits.envelopes s.borders _ c.well_formed.1.1.0) in
-    rw (lt-ltb s.band 34 c.if-band-ge34.false, le-leb (limits.course * s.band + limits.course) (length s.rows.now) c.if-rows-at.false, ← c.least-used.ensures, ← c.least-slots.ensures)
+    let few : c.min-used.result ≤ length s.borders = omega (arith, c.min-used.ensures, good_length (e_int w8) limits.envelopes s.borders _ c.well_formed.1.1.0) in
+    rw (lt-ltb s.band 34 c.if-band-ge34.false, le-leb (limits.course * s.band + limits.course) (length s.rows.now) c.if-rows-at.false, ← c.min-used.ensures, ← c.min.ensures)
     (c.envelopes.ensures
-    ∙ runs_taken s.borders c.least-used.result (fraction_at s.fractions.now) (border_matrix s.rows.now s.band) few c.least-slots.result (matrix_at s.out.now))
+    ∙ runs_taken s.borders c.min-used.result (fraction_at s.fractions.now) (border_matrix s.rows.now s.band) few c.min.result (matrix_at s.out.now))

@@ -12,15 +12,14 @@ use Rattle.ps_stereo_slots.proofs.Filled.{written_none, written_more, written_al
 use Rattle.ps_stereo_slots.proofs.region.Goals as goal
 
 pub loop-n-init : goal.loop-n-init
-loop-n-init c = (omega arith, inl (omega arith), written_none _ _ _ c.requires.2)
+loop-n-init c = (omega arith, inl (omega arith), written_none _ _ _ (omega arith))
 
 pub loop-n-preserved : goal.loop-n-preserved
 loop-n-preserved c =
     let s = c.args in (
       omega arith,
       inr (omega arith),
-      rw c.put_step.ensures
-          (written_more c.loop-n.invariant.2 (stepped s.from c.step-way.result (get_or s.fractions.now c.loop-n.n nan)) refl (omega arith) (omega arith)),
+      rw c.put.ensures (written_more c.loop-n.invariant.2 c.stepped.result c.stepped.ensures (omega arith) (omega arith)),
     )
 
 pub returns : goal.returns

@@ -5,18 +5,18 @@ use native.Mathlib.Omega.{arith}
 use Rattle.ps_stereo_slots.proofs.Borders.{start_after}
 use Rattle.ps_stereo_slots.proofs.Located.{region_before, region_past}
 use Rattle.ps_stereo_slots.proofs.region_at.Goals as goal
-use Rattle.ps_stereo_slots.proofs.region_at.Goals.{then-count-gt0+else-n-borders, else-count-gt0}
+use Rattle.ps_stereo_slots.proofs.region_at.Goals.{else-count-gt0-via-then-count-gt0+else-n-from, else-count-gt0-via-else-count-gt0}
 
-pub returns-then-n-borders : goal.returns-then-n-borders
-returns-then-n-borders c =
+pub returns-then-n-from : goal.returns-then-n-from
+returns-then-n-from c =
     let s = c.args in
     let first = start_after s.borders s.count (λ (none : s.count ≡ 0). omega (arith, c.if-count-gt0.true)) in
-    c.region_below.ensures ∙ sym (region_before s.borders s.n s.count (omega (arith, first, c.if-n-borders.true)))
+    c.region_below.ensures ∙ sym (region_before s.borders s.n s.count (omega (arith, first, c.from.ensures, c.if-n-from.true)))
 
 pub returns : goal.returns
 returns c =
     let s = c.args in
-    sym (region_past s.borders s.n s.count (elim c.if-count-gt0.branch [
-      | then-count-gt0+else-n-borders w ↦ let first = start_after s.borders s.count (λ (none : s.count ≡ 0). omega (arith, w.if-count-gt0.true)) in omega (arith, first, w.if-n-borders.false)
-      | else-count-gt0 w ↦ let none : s.count ≡ 0 = omega (arith, w.if-count-gt0.false) in rw none (omega arith)
+    sym (region_past s.borders s.n s.count (elim c.else-count-gt0.branch [
+      | else-count-gt0-via-then-count-gt0+else-n-from w ↦ let first = start_after s.borders s.count (λ (none : s.count ≡ 0). omega (arith, w.if-count-gt0.true)) in omega (arith, first, w.from.ensures, w.if-n-from.false)
+      | else-count-gt0-via-else-count-gt0 w ↦ let none : s.count ≡ 0 = omega (arith, w.if-count-gt0.false) in rw none (omega arith)
     ]))
