@@ -9,3 +9,4 @@ pub mod Ring
 pub mod Queue
 pub mod Padded
 pub mod First
+pub mod FromFn
