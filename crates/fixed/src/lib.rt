@@ -1,7 +1,7 @@
 // Constants as floats: a table holds whole numbers of 2^-52.
 #![tactic(auto)]
 
-ghost use Rattle.std.specs.Prelude.{◌≡◌, ◌+◌, pos, slice_index_or};
+ghost use Rattle.std.specs.Prelude.{◌≡◌, pos, slice_index_or};
 ghost use Rattle.fixed.specs.Real.{real, pair_at};
 
 use complex::Complex;
@@ -17,18 +17,7 @@ pub fn unit(n: i64) -> f64
 fn number(table: &[i64], at: usize) -> i64
     ensures { result ≡ slice_index_or table.now at (pos 0) }
 {
-    if at < table.len() { table[at] } else { 0 }
-}
-
-// The number after a place of a table, 0 past its end.
-fn number_after(table: &[i64], at: usize) -> i64
-    ensures { result ≡ slice_index_or table.now (at + 1) (pos 0) }
-{
-    if at < table.len() {
-        number(table, at + 1)
-    } else {
-        0
-    }
+    table.get(at).copied().unwrap_or(0)
 }
 
 // The pair that starts at a place of a table.
@@ -37,6 +26,6 @@ pub fn pair(table: &[i64], at: usize) -> Complex
 {
     Complex {
         re: unit(number(table, at)),
-        im: unit(number_after(table, at)),
+        im: unit(number(table, at.saturating_add(1))),
     }
 }

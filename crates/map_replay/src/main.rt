@@ -2,114 +2,45 @@
 // indices that the Rust gives. It says how many rows are mapped so, or which is the first that is not.
 #![tactic(auto)]
 
-ghost use Rattle.std.specs.Prelude.{◌≡◌, ◌*◌, ◌≤◌, length};
+ghost use Rattle.std.specs.Prelude.{◌≤◌, length};
 
+use answer::Answer;
 use std::io::Read;
 
-// Whole records that one read brings: 851 records of 77 bytes.
-const PIECE: usize = 65527;
+const RECORD: usize = 77;
 
-// What a piece of the input says: how many of its records hold, whether that is all of it, and whether the replay ends with it.
-#[derive(Clone, Copy)]
-struct Piece {
-    held: u64,
-    whole: bool,
-    last: bool,
-}
-
-// How many records hold, up to the first that does not; whole where that is the input's end.
-#[derive(Clone, Copy)]
-struct Replayed {
-    count: u64,
-    whole: bool,
-}
+// Whole records that one read brings.
+const PIECE: usize = 851 * RECORD;
 
 // A byte as a signed number: its magnitude, at most 63, and 128 more where it is negative.
 fn signed(byte: u8) -> i8 {
     if byte < 128 {
-        return byte as i8;
+        byte as i8
+    } else {
+        -((byte % 64) as i8)
     }
-    -((byte % 64) as i8)
 }
 
-fn load(entry: &[u8]) -> [i8; 40]
-    requires { length entry.now ≡ 77 }
-    ensures { length result ≡ 40 }
-{
-    let mut row = [0i8; 40];
-    let mut i = 0;
-    while i < 40 {
-        row[i] = signed(entry[i + 2]);
-        i += 1;
-    }
-    row
-}
-
-fn same(entry: &[u8], row: &[i8; 34]) -> bool
-    requires { length entry.now ≡ 77 }
-{
-    let mut i = 0;
-    while i < 34 {
-        if row[i] != signed(entry[i + 43]) {
-            return false;
-        }
-        i += 1;
-    }
-    true
+// The answer and the mapped row are the record's.
+fn says(record: &[u8; RECORD], answer: Answer, mapped: &[i8; 34]) -> bool {
+    answer.number() == record[42]
+        && record[43..]
+            .iter()
+            .zip(mapped)
+            .all(|(byte, index)| signed(*byte) == *index)
 }
 
 // One row is mapped as the Rust maps it.
-fn holds(entry: &[u8]) -> bool
-    requires { length entry.now ≡ 77 }
-{
-    let count = limits::wide(entry[0]);
-    let target = limits::wide(entry[1]);
+fn holds(record: &[u8; RECORD]) -> bool {
+    let count = usize::from(record[0]);
+    let target = usize::from(record[1]);
     if 40 < count {
         return false;
     }
-    let row = load(entry);
-    let got = ps_map::map_indices(&row[..count], target);
-    let mapping = got.mapping;
-    let answer = mapping.answer();
-    if answer.number() != entry[42] {
-        return false;
-    }
-    let mapped = got.row;
-    same(entry, &mapped)
-}
-
-// How many records of a piece hold, up to the first that does not.
-fn held(piece: &[u8]) -> usize
-    requires { length piece.now ≤ 65536 }
-    ensures { result * 77 ≤ length piece.now }
-{
-    let mut at = 0;
-    let mut count = 0;
-    while at + 77 <= piece.len() {
-        if !holds(&piece[at..at + 77]) {
-            return count;
-        }
-        at += 77;
-        count += 1;
-    }
-    count
-}
-
-fn say(rt: &impl Print, words: &[u8]) {
-    let _ = rt.write_all(words);
-}
-
-fn say_number(rt: &impl Print, n: u64) {
-    let _ = rt.print(n);
-}
-
-// How many bytes a read brought: none at the input's end, and none where it failed.
-fn read_some(reader: &mut impl Read, bytes: &mut [u8]) -> usize
-    ensures { result ≤ length bytes.new }
-{
-    match reader.read(bytes) {
-        Ok(count) => count,
-        Err(_) => 0,
+    let row: [i8; 40] = std::array::from_fn(|i| signed(record[i + 2]));
+    match ps_map::map_indices(&row[..count], target) {
+        Ok(mapped) => says(record, Answer::Done, &mapped.row),
+        Err(answer) => says(record, answer, &[0; 34]),
     }
 }
 
@@ -119,56 +50,41 @@ fn read_full(reader: &mut impl Read, bytes: &mut [u8]) -> usize
 {
     let mut done = 0;
     while done < bytes.len() {
-        let count = read_some(reader, &mut bytes[done..]);
-        if count == 0 {
-            break;
+        match reader.read(&mut bytes[done..]) {
+            Ok(0) | Err(_) => break,
+            Ok(count) => done += count,
         }
-        done += count;
     }
     done
 }
 
-// The next piece of the input. It is the last where a record of it does not hold or is not whole, and where it is empty.
-fn next(reader: &mut impl Read) -> Piece {
-    let mut bytes = [0u8; PIECE];
-    let got = read_full(reader, &mut bytes);
-    let count = held(&bytes[..got]);
-    let whole = count * 77 == got;
-    Piece {
-        held: count as u64,
-        whole: whole,
-        last: !whole | (got == 0),
-    }
-}
-
-fn replay(reader: &mut impl Read) -> Replayed {
-    let mut replayed = Replayed {
-        count: 0,
-        whole: true,
-    };
+// How many records hold. Where one does not hold or is cut, it is an error, with how many hold before it.
+fn replay(reader: &mut impl Read) -> Result<usize, usize> {
+    let mut bytes = [0; PIECE];
+    let mut count = 0usize;
     // A proved loop has to end: no input uses up these turns.
     for _ in 0..u64::MAX {
-        let read = next(reader);
-        replayed = Replayed {
-            count: std::num::wrapping_add_u64(replayed.count, read.held),
-            whole: read.whole,
-        };
-        if read.last {
+        let got = read_full(reader, &mut bytes);
+        if got == 0 {
             break;
         }
+        let (records, rest) = bytes[..got].as_chunks::<RECORD>();
+        let held = records.iter().take_while(|record| holds(record)).count();
+        count = count.wrapping_add(held);
+        if held < records.len() || !rest.is_empty() {
+            return Err(count);
+        }
     }
-    replayed
+    Ok(count)
 }
 
 fn main(rt: HostRuntime) {
-    let replayed = replay(&mut rt.stdin());
-    say_number(&rt, replayed.count);
-    if replayed.whole {
-        say(&rt, b" rows are mapped as the Rust maps them\n");
-    } else {
-        say(
-            &rt,
-            b" rows are mapped as the Rust maps them; the next is not, or is cut\n",
-        );
-    }
+    let _ = match replay(&mut rt.stdin()) {
+        Ok(count) => println!(rt; "{count} rows are mapped as the Rust maps them"),
+        Err(count) => {
+            println!(rt;
+                "{count} rows are mapped as the Rust maps them; the next is not, or is cut"
+            )
+        }
+    };
 }

@@ -27,9 +27,9 @@ fn level_place(fine: bool, level: usize) -> usize
     ensures { (result ≡ level_place fine level) × (result < 46) }
 {
     if fine {
-        15 + limits::least(level, 30)
+        15 + level.min(30)
     } else {
-        limits::least(level, 14)
+        level.min(14)
     }
 }
 
@@ -46,7 +46,7 @@ fn place(rb: bool, fine: bool, level: usize, coherence: usize) -> usize
 {
     let procedure = procedure_place(rb);
     let row = level_place(fine, level);
-    let column = limits::least(coherence, 7);
+    let column = coherence.min(7);
     4 * ((procedure + row) * 8 + column)
 }
 

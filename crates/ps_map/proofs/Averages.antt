@@ -7,21 +7,18 @@ use lib.IntN.{ℤ, pos, ◌+ℤ◌, ◌*ℤ◌}
 use lib.Signed.{mag, quot_z}
 use mir.Syntax.{w8, w32}
 use mir.Val.{SFits, to_z, of_z}
-use mir.Facts.{to_z-of_z, sfits_widen}
+use mir.Facts.{to_z-of_z}
 use Rattle.integers.specs.Integers.{to_zero}
 use Rattle.integers.proofs.Bits.{back, wide}
 use Rattle.integers.proofs.Sizes.{mag_add, mag_scaled}
 use Rattle.integers.proofs.Quotients.{quot_is, small}
 
--- a number as its 8 or 32 bits give it back, and an index of 8 bits that is read as 32
+-- a number as its 8 or 32 bits give it back
 abbrev pub in8 : ℤ → ℤ
 in8 z = to_z w8 (of_z w8 z)
 
 abbrev pub in32 : ℤ → ℤ
 in32 z = to_z w32 (of_z w32 z)
-
-abbrev pub read : ℤ → ℤ
-read a = in32 (in8 a)
 
 -- z, which the code has, is s, a sum of n indices
 pub record Sum (z s : ℤ) (n : ℕ) : Type 0 where
@@ -31,11 +28,9 @@ pub record Sum (z s : ℤ) (n : ℕ) : Type 0 where
   pub few : n ≤ 4
 
 -- ---- sums
-pub cast_fits : {a : ℤ} → SFits w8 a → SFits w32 (in8 a)
-cast_fits f = rw (to_z-of_z f) (sfits_widen tt f)
-
-pub one : {a : ℤ} → SFits w8 a → Sum (read a) a 1
-one {a} f = record { is = wide w8 w32 a tt f.sfits; size = omega (arith, f.sfits); some = omega arith; few = omega arith }
+-- an index as `i32::from` gives it
+pub one : {r a : ℤ} → r ≡ in8 a → SFits w8 a → Sum (in32 r) a 1
+one {r} {a} e f = record { is = rw e (wide w8 w32 a tt f.sfits); size = omega (arith, f.sfits); some = omega arith; few = omega arith }
 
 pub plus : {x y a b : ℤ} {j k : ℕ} → Sum x a j → Sum y b k → j + k ≤ 4 → Sum (x +ℤ y) (a +ℤ b) (j + k)
 plus {x} {y} {a} {b} p q h = record { is = rw (p.is, q.is); size = omega (arith, mag_add a b, p.size, q.size); some = omega (arith, p.some); few = h }

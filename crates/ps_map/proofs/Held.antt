@@ -1,12 +1,13 @@
 -- The places that hold a row, for any number of places and any kind of element: each reads as the row does, with zeros past its end. Assumes nothing.
-use mathlib.Core.Path.{◌≡◌, refl, sym, ◌∙◌}
+use mathlib.Core.Path.{◌≡◌, refl, sym, ap, ◌∙◌}
 use mathlib.Core.Bool.{Bool, true, false, not}
 use mathlib.Core.List.{List, [], ◌∷◌, ◌++◌}
-use Prim.Native.Nat.{ℕ, zero, suc, ◌≤◌, ◌<◌}
+use Prim.Native.Nat.{ℕ, zero, suc, ◌≤◌, ◌<◌, min}
+use native.Mathlib.Nat.{le_refl}
 use native.Mathlib.Omega.{arith}
-use lib.Dec.{T, ltb, ltb→lt, nltb→le}
-use lib.ListN.{length, get_or, replicate, get_or-eq_default}
-use lib.Seq.{get_or-take, ext_get_or}
+use lib.Dec.{T, ltb, ltb→lt, nltb→le, leb, leb→le, nleb→lt}
+use lib.ListN.{length, take, get_or, replicate, get_or-eq_default}
+use lib.Seq.{get_or-take, ext_get_or, take_all, take-append-le}
 use Rattle.lists.specs.Padded.{padded}
 use Rattle.lists.specs.Rows.{tabulate}
 use Rattle.lists.proofs.Padded.{padded_length}
@@ -40,3 +41,17 @@ module _ {A : Type 0} (z : A) where
       anywhere i false a b =
           let past : m ≤ i = b tt in
           get_or-eq_default (padded m z v) z {n = i} (rw padded_length past) ∙ sym (get_or-eq_default v z {n = i} (omega arith))
+
+  -- a row that is cut to a length reads as one that is padded to it
+  pub held_cut : (n m : ℕ) (v : List A) → padded n z (take (min m (length v)) v) ≡ padded n z (padded m z v)
+  held_cut n m v = go (leb m (length v)) (leb→le m (length v)) (nleb→lt m (length v))
+    where
+      go : (t : Bool) → (T t → m ≤ length v) → (T (not t) → length v < m) → padded n z (take (min m (length v)) v) ≡ padded n z (padded m z v)
+      go true a b =
+          let few : m ≤ length v = a tt in
+          let least : min m (length v) ≡ m = omega arith in
+          rw least (ap (padded n z) (sym (take-append-le m v (replicate m z) few)))
+      go false a b =
+          let past : length v < m = b tt in
+          let least : min m (length v) ≡ length v = omega arith in
+          rw (least, take_all (length v) v (le_refl (length v))) (sym (held_twice n m v (omega arith)))

@@ -12,18 +12,43 @@ use Rattle.ps_map.specs.declared.MapSrc.{MapSrc}
 use Rattle.ps_map.specs.declared.MapSrc.TheVariants.{Single, Avg, Avg4, W21, W12}
 use Rattle.ps_map.specs.Tables.{sources_of}
 
+-- ---- what a source makes of a row, for any kind of number
+
+-- what stands past a row's end, and the averages (a + b)/2, (a + b + c + d)/4, (2a + b)/3, (a + 2b)/3
+pub record Averages (A : Type 0) : Type 0 where
+  pub none : A
+  pub of_two : A → A → A
+  pub of_four : A → A → A → A → A
+  pub first_twice : A → A → A
+  pub second_twice : A → A → A
+
+module _ {A : Type 0} (by : Averages A) where
+  abbrev pub at : List A → ℕ → A
+  at v i = get_or v i by.none
+
+  abbrev pub made : List A → MapSrc → A
+  made v (Single i) = at v i
+  made v (Avg i j) = by.of_two (at v i) (at v j)
+  made v (Avg4 i j k l) = by.of_four (at v i) (at v j) (at v k) (at v l)
+  made v (W21 i j) = by.first_twice (at v i) (at v j)
+  made v (W12 i j) = by.second_twice (at v i) (at v j)
+
 -- ---- indices
 
-abbrev pub index_at : List ℤ → ℕ → ℤ
-index_at v i = get_or v i (pos 0)
+abbrev pub index_averages : Averages ℤ
+index_averages = record {
+  none = pos 0;
+  of_two = λ a b. to_zero (a +ℤ b) 2;
+  of_four = λ a b c d. to_zero (a +ℤ b +ℤ c +ℤ d) 4;
+  first_twice = λ a b. to_zero (pos 2 *ℤ a +ℤ b) 3;
+  second_twice = λ a b. to_zero (a +ℤ pos 2 *ℤ b) 3;
+}
 
--- (a + b)/2, (a + b + c + d)/4, (2a + b)/3, (a + 2b)/3
+abbrev pub index_at : List ℤ → ℕ → ℤ
+index_at v i = at index_averages v i
+
 abbrev pub index_from : List ℤ → MapSrc → ℤ
-index_from v (Single i) = index_at v i
-index_from v (Avg i j) = to_zero (index_at v i +ℤ index_at v j) 2
-index_from v (Avg4 i j k l) = to_zero (index_at v i +ℤ index_at v j +ℤ index_at v k +ℤ index_at v l) 4
-index_from v (W21 i j) = to_zero (pos 2 *ℤ index_at v i +ℤ index_at v j) 3
-index_from v (W12 i j) = to_zero (index_at v i +ℤ pos 2 *ℤ index_at v j) 3
+index_from v source = made index_averages v source
 
 -- from 10 to 20: each parameter twice
 abbrev pub duplicated : List ℤ → List ℤ
@@ -54,17 +79,20 @@ extended_to n v = padded n (pos 0) v
 abbrev pub whole : ℕ → Float
 whole n = of_int binary64 (pos n)
 
-abbrev pub coefficient_at : List Float → ℕ → Float
-coefficient_at v i = get_or v i (whole 0)
+abbrev pub coefficient_averages : Averages Float
+coefficient_averages = record {
+  none = whole 0;
+  of_two = λ a b. div binary64 (add binary64 a b) (whole 2);
+  of_four = λ a b c d. div binary64 (add binary64 (add binary64 (add binary64 a b) c) d) (whole 4);
+  first_twice = λ a b. div binary64 (add binary64 (mul binary64 (whole 2) a) b) (whole 3);
+  second_twice = λ a b. div binary64 (add binary64 a (mul binary64 (whole 2) b)) (whole 3);
+}
 
--- the same averages, divided
+abbrev pub coefficient_at : List Float → ℕ → Float
+coefficient_at v i = at coefficient_averages v i
+
 abbrev pub coefficient_from : List Float → MapSrc → Float
-coefficient_from v (Single i) = coefficient_at v i
-coefficient_from v (Avg i j) = div binary64 (add binary64 (coefficient_at v i) (coefficient_at v j)) (whole 2)
-coefficient_from v (Avg4 i j k l) =
-    div binary64 (add binary64 (add binary64 (add binary64 (coefficient_at v i) (coefficient_at v j)) (coefficient_at v k)) (coefficient_at v l)) (whole 4)
-coefficient_from v (W21 i j) = div binary64 (add binary64 (mul binary64 (whole 2) (coefficient_at v i)) (coefficient_at v j)) (whole 3)
-coefficient_from v (W12 i j) = div binary64 (add binary64 (coefficient_at v i) (mul binary64 (whole 2) (coefficient_at v j))) (whole 3)
+coefficient_from v source = made coefficient_averages v source
 
 -- padded coefficients brought to a layout from the other one, in 34 places: zeros after them
 unfoldable pub map_coefficients : List Float → Layout → List Float

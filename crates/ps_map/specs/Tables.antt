@@ -1,5 +1,5 @@
 -- Tables 8.45 and 8.46: where a band's parameter comes from when the number of stereo bands is another. Assumes nothing.
-use Rattle.std.specs.Prelude.{List, [], ◌∷◌, ◌++◌, replicate}
+use Rattle.std.specs.Prelude.{List, [], ◌∷◌}
 use Rattle.layout.specs.declared.Layout.{Layout}
 use Rattle.layout.specs.declared.Layout.TheVariants.{Bands20, Bands34}
 use Rattle.ps_map.specs.declared.MapSrc.{MapSrc}
@@ -23,8 +23,3 @@ map34to20 =
 abbrev pub sources_of : Layout → List MapSrc
 sources_of Bands20 = map34to20
 sources_of Bands34 = map20to34
-
--- the 34 places that hold them
-abbrev pub held_sources : Layout → List MapSrc
-held_sources Bands20 = map34to20 ++ replicate 14 (Single 0)
-held_sources Bands34 = map20to34

@@ -5,12 +5,11 @@
 mod channels;
 mod sources;
 
-ghost use Rattle.std.specs.Prelude.{◌≡◌, map, ◌≤◌, length};
+ghost use Rattle.std.specs.Prelude.{◌≡◌, ◌≤◌, length};
 ghost use Rattle.lists.specs.All.{all};
 ghost use Rattle.ps_map.specs.Bands.{parameter_map, conjugated_of};
-ghost use Rattle.ps_map.specs.Maps.{index_from, duplicated, map_row, padded_row, extended_to, map_coefficients};
-ghost use Rattle.ps_map.specs.Standalone.{answer_of, length_fits, value_fits, refused, by_values, map_indices};
-ghost use Rattle.ps_map.specs.Tables.{sources_of};
+ghost use Rattle.ps_map.specs.Maps.{duplicated, map_row, padded_row, extended_to, map_coefficients};
+ghost use Rattle.ps_map.specs.Standalone.{length_fits, value_fits, by_values, map_indices};
 
 use answer::Answer;
 use layout::Layout;
@@ -28,16 +27,10 @@ pub enum MapSrc {
     W12(usize, usize),
 }
 
-#[derive(Clone, Copy)]
-pub enum Mapping {
-    Bands(usize),
-    Refused(Answer),
-}
-
-// A mapped row, with zeros after it.
+// A mapped row, with zeros after it, and how many bands it is for.
 #[derive(Clone, Copy)]
 pub struct Mapped {
-    pub mapping: Mapping,
+    pub bands: usize,
     pub row: [i8; 34],
 }
 
@@ -57,7 +50,7 @@ pub fn conjugated(layout: Layout, channel: usize) -> bool
 {
     match layout {
         Layout::Bands20 => channel < 2,
-        Layout::Bands34 => if channel < 9 { false } else { channel < 12 },
+        Layout::Bands34 => (9..12).contains(&channel),
     }
 }
 
@@ -65,170 +58,90 @@ pub fn conjugated(layout: Layout, channel: usize) -> bool
 fn copied(v: &[i8]) -> [i8; 34]
     ensures { result ≡ padded_row v.now }
 {
-    let mut out = [0i8; 34];
-    let mut i = 0;
-    while i < 34 {
-        out[i] = sources::index_at(v, i);
-        i += 1;
-    }
-    out
+    std::array::from_fn(|i| v.get(i).copied().unwrap_or(0))
 }
 
 // From 10 to 20: each number twice.
 fn doubled(v: &[i8]) -> [i8; 34]
-    requires { length v.now ≤ 17 }
     ensures { result ≡ padded_row (duplicated v.now) }
 {
-    let mut out = [0i8; 34];
-    let mut i = 0;
-    while i < v.len() {
-        out[2 * i] = v[i];
-        out[2 * i + 1] = v[i];
-        i += 1;
-    }
-    out
-}
-
-// To a layout's bands from those of the other layout.
-fn from_other(v: &[i8], layout: Layout) -> [i8; 34]
-    ensures { result ≡ padded_row (map (index_from v.now) (sources_of layout)) }
-{
-    let table = sources::sources(layout);
-    let bands = layout.bands();
-    let mut out = [0i8; 34];
-    let mut i = 0;
-    while i < bands {
-        let source = table[i];
-        out[i] = sources::index_of(source, v);
-        i += 1;
-    }
-    out
+    std::array::from_fn(|i| v.get(i / 2).copied().unwrap_or(0))
 }
 
 // A row of 10, 20 or 34 indices for the bands of a layout.
 pub fn map_row(v: &[i8], layout: Layout) -> [i8; 34]
     ensures { result ≡ padded_row (map_row v.now layout) }
 {
-    let count = v.len();
-    let bands = layout.bands();
-    if count == bands {
+    if v.len() == layout.bands() {
         return copied(v);
     }
-    if count != 10 {
-        return from_other(v, layout);
+    if v.len() != 10 {
+        return sources::brought(v, layout);
     }
     let twice = doubled(v);
-    if bands == 20 {
-        return twice;
+    match layout {
+        Layout::Bands20 => twice,
+        Layout::Bands34 => sources::brought(&twice[..20], layout),
     }
-    from_other(&twice[..20], layout)
 }
 
 // The first numbers of a row, up to a length of at most 34, zeros after them.
 pub fn extended(v: &[i8], length: usize) -> [i8; 34]
     ensures { result ≡ padded_row (extended_to length v.now) }
 {
-    if v.len() <= length {
-        return copied(v);
-    }
-    copied(&v[..length])
+    copied(&v[..length.min(v.len())])
 }
 
 fn value_fits(value: i8) -> bool
     ensures { result ≡ value_fits value }
 {
-    if value < -15 {
-        return false;
-    }
-    !(15 < value)
+    (-15..=15).contains(&value)
 }
 
 fn all_values_fit(v: &[i8]) -> bool
     ensures { result ≡ all value_fits v.now }
 {
-    let mut i = 0;
-    while i < v.len() {
-        if !value_fits(v[i]) {
-            return false;
-        }
-        i += 1;
-    }
-    true
+    v.iter().all(|x| value_fits(*x))
 }
 
 fn length_fits(count: usize) -> bool
     ensures { result ≡ length_fits count }
 {
-    if count == 10 {
-        return true;
-    }
-    if count == 20 {
-        return true;
-    }
-    count == 34
+    matches!(count, 10 | 20 | 34)
 }
 
-fn refuse(answer: Answer) -> Mapped
-    ensures { result ≡ refused answer }
-{
-    Mapped {
-        mapping: Mapping::Refused(answer),
-        row: [0i8; 34],
-    }
-}
-
-fn map_values(v: &[i8], layout: Layout, target: usize) -> Mapped
+#[tactic(auto, unfolding(crate::specs::Standalone::by_values))]
+fn map_values(v: &[i8], layout: Layout, target: usize) -> Result<Mapped, Answer>
     ensures { result ≡ by_values v.now layout target }
 {
     if !all_values_fit(v) {
-        return refuse(Answer::Field);
+        return Err(Answer::Field);
     }
-    let row = map_row(v, layout);
-    Mapped {
-        mapping: Mapping::Bands(target),
-        row: row,
-    }
+    Ok(Mapped {
+        bands: target,
+        row: map_row(v, layout),
+    })
 }
 
 // The stand-alone map, for rows of any length and values, and any target.
-pub fn map_indices(v: &[i8], target: usize) -> Mapped
+#[tactic(auto, unfolding(crate::specs::Standalone::map_indices))]
+pub fn map_indices(v: &[i8], target: usize) -> Result<Mapped, Answer>
     ensures { result ≡ map_indices v.now target }
 {
     if !length_fits(v.len()) {
-        return refuse(Answer::Buffers);
+        return Err(Answer::Buffers);
     }
-    if target == 20 {
-        return map_values(v, Layout::Bands20, target);
-    }
-    if target == 34 {
-        return map_values(v, Layout::Bands34, target);
-    }
-    refuse(Answer::Buffers)
-}
-
-impl Mapping {
-    pub fn answer(self) -> Answer
-        ensures { result ≡ answer_of self }
-    {
-        match self {
-            Mapping::Bands(_) => Answer::Done,
-            Mapping::Refused(a) => a,
-        }
+    match target {
+        20 => map_values(v, Layout::Bands20, target),
+        34 => map_values(v, Layout::Bands34, target),
+        _ => Err(Answer::Buffers),
     }
 }
 
 // Held coefficients, one of the four and one part of it for each band, brought to a layout from the other one.
+#[tactic(auto, unfolding(crate::specs::Maps::map_coefficients))]
 pub fn map_coefficients(v: [f64; 34], layout: Layout) -> [f64; 34]
     ensures { result ≡ map_coefficients v layout }
 {
-    let table = sources::sources(layout);
-    let bands = layout.bands();
-    let mut out = [0.0; 34];
-    let mut i = 0;
-    while i < bands {
-        let source = table[i];
-        out[i] = sources::coefficient_of(source, &v);
-        i += 1;
-    }
-    out
+    sources::brought(&v, layout)
 }

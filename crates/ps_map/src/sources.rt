@@ -1,8 +1,8 @@
 // Tables 8.45 and 8.46 (source document 003), and what a source makes of a row.
-ghost use Rattle.std.specs.Prelude.{◌≡◌, ◌+ℤ◌, ◌*ℤ◌, pos};
-ghost use Rattle.integers.specs.Integers.{to_zero};
-ghost use Rattle.ps_map.specs.Maps.{index_at, index_from, coefficient_at, coefficient_from};
-ghost use Rattle.ps_map.specs.Tables.{sources_of, held_sources};
+ghost use Rattle.std.specs.Prelude.{◌≡◌, map, get_or};
+ghost use Rattle.lists.specs.Padded.{padded};
+ghost use Rattle.ps_map.specs.Maps.{Averages, index_averages, coefficient_averages, at, made};
+ghost use Rattle.ps_map.specs.Tables.{sources_of};
 
 use super::MapSrc;
 use layout::Layout;
@@ -45,8 +45,8 @@ const MAP_20_TO_34: [MapSrc; 34] = [
     MapSrc::Single(19),
 ];
 
-// Table 8.46: the source of each of 20 bands among 34. The places after them are not read.
-const MAP_34_TO_20: [MapSrc; 34] = [
+// Table 8.46: the source of each of 20 bands among 34.
+const MAP_34_TO_20: [MapSrc; 20] = [
     MapSrc::W21(0, 1),
     MapSrc::W12(1, 2),
     MapSrc::W21(3, 4),
@@ -67,112 +67,125 @@ const MAP_34_TO_20: [MapSrc; 34] = [
     MapSrc::Avg(26, 27),
     MapSrc::Avg4(28, 29, 30, 31),
     MapSrc::Avg(32, 33),
-    MapSrc::Single(0),
-    MapSrc::Single(0),
-    MapSrc::Single(0),
-    MapSrc::Single(0),
-    MapSrc::Single(0),
-    MapSrc::Single(0),
-    MapSrc::Single(0),
-    MapSrc::Single(0),
-    MapSrc::Single(0),
-    MapSrc::Single(0),
-    MapSrc::Single(0),
-    MapSrc::Single(0),
-    MapSrc::Single(0),
-    MapSrc::Single(0),
 ];
 
 // The sources of a layout's bands among those of the other layout.
-pub fn sources(layout: Layout) -> [MapSrc; 34]
-    ensures { result ≡ held_sources layout }
+#[tactic(auto, unfolding(crate::specs::Tables::map20to34, crate::specs::Tables::map34to20))]
+fn sources(layout: Layout) -> &'static [MapSrc]
+    ensures { result.now ≡ sources_of layout }
 {
     match layout {
-        Layout::Bands20 => MAP_34_TO_20,
-        Layout::Bands34 => MAP_20_TO_34,
+        Layout::Bands20 => &MAP_34_TO_20,
+        Layout::Bands34 => &MAP_20_TO_34,
     }
 }
 
-// The index at a band, 0 past the end.
-pub fn index_at(v: &[i8], band: usize) -> i8
-    ensures { result ≡ index_at v.now band }
-{
-    if band < v.len() { v[band] } else { 0 }
+// A kind of number that is brought from one number of bands to another.
+pub trait Averaged: Copy {
+    ghost averages: { Averages Self };
+
+    // What stands past a row's end.
+    fn none() -> Self
+        ensures { result ≡ averages.none };
+
+    fn of_two(a: Self, b: Self) -> Self
+        ensures { result ≡ averages.of_two a b };
+
+    fn of_four(a: Self, b: Self, c: Self, d: Self) -> Self
+        ensures { result ≡ averages.of_four a b c d };
+
+    fn first_twice(a: Self, b: Self) -> Self
+        ensures { result ≡ averages.first_twice a b };
+
+    fn second_twice(a: Self, b: Self) -> Self
+        ensures { result ≡ averages.second_twice a b };
 }
 
-// Averages of indices, toward zero.
-fn mean_of_two(a: i8, b: i8) -> i8
-    ensures { result ≡ to_zero (a +ℤ b) 2 }
-{
-    let x = a as i32;
-    let y = b as i32;
-    ((x + y) / 2) as i8
+// Indices are averaged in whole numbers, toward zero.
+impl Averaged for i8 {
+    ghost averages = { index_averages };
+
+    fn none() -> i8 {
+        0
+    }
+
+    fn of_two(a: i8, b: i8) -> i8 {
+        ((i32::from(a) + i32::from(b)) / 2) as i8
+    }
+
+    fn of_four(a: i8, b: i8, c: i8, d: i8) -> i8 {
+        ((i32::from(a) + i32::from(b) + i32::from(c) + i32::from(d)) / 4) as i8
+    }
+
+    fn first_twice(a: i8, b: i8) -> i8 {
+        ((2 * i32::from(a) + i32::from(b)) / 3) as i8
+    }
+
+    fn second_twice(a: i8, b: i8) -> i8 {
+        ((i32::from(a) + 2 * i32::from(b)) / 3) as i8
+    }
 }
 
-fn mean_of_four(a: i8, b: i8, c: i8, d: i8) -> i8
-    ensures { result ≡ to_zero (a +ℤ b +ℤ c +ℤ d) 4 }
-{
-    let x = a as i32;
-    let y = b as i32;
-    let z = c as i32;
-    let w = d as i32;
-    ((x + y + z + w) / 4) as i8
+// Coefficients in floats, each operation rounded once.
+#[tactic(auto, using(crate::proofs::Literals::none, crate::proofs::Literals::two, crate::proofs::Literals::three, crate::proofs::Literals::four))]
+impl Averaged for f64 {
+    ghost averages = { coefficient_averages };
+
+    fn none() -> f64 {
+        0.0
+    }
+
+    fn of_two(a: f64, b: f64) -> f64 {
+        (a + b) / 2.0
+    }
+
+    fn of_four(a: f64, b: f64, c: f64, d: f64) -> f64 {
+        (a + b + c + d) / 4.0
+    }
+
+    fn first_twice(a: f64, b: f64) -> f64 {
+        (2.0 * a + b) / 3.0
+    }
+
+    fn second_twice(a: f64, b: f64) -> f64 {
+        (a + 2.0 * b) / 3.0
+    }
 }
 
-fn mean_first_twice(a: i8, b: i8) -> i8
-    ensures { result ≡ to_zero (pos 2 *ℤ a +ℤ b) 3 }
+// The number at a band.
+fn at<T: Averaged>(v: &[T], band: usize) -> T
+    ensures { result ≡ at T.averages v.now band }
 {
-    let x = a as i32;
-    let y = b as i32;
-    ((2 * x + y) / 3) as i8
+    v.get(band).copied().unwrap_or(T::none())
 }
 
-fn mean_second_twice(a: i8, b: i8) -> i8
-    ensures { result ≡ to_zero (a +ℤ pos 2 *ℤ b) 3 }
-{
-    let x = a as i32;
-    let y = b as i32;
-    ((x + 2 * y) / 3) as i8
-}
-
-// The index that a source makes.
-pub fn index_of(source: MapSrc, v: &[i8]) -> i8
-    ensures { result ≡ index_from v.now source }
+// The number that a source makes.
+fn made<T: Averaged>(source: MapSrc, v: &[T]) -> T
+    ensures { result ≡ made T.averages v.now source }
 {
     match source {
-        MapSrc::Single(i) => index_at(v, i),
-        MapSrc::Avg(i, j) => mean_of_two(index_at(v, i), index_at(v, j)),
-        MapSrc::Avg4(i, j, k, l) => mean_of_four(
-            index_at(v, i),
-            index_at(v, j),
-            index_at(v, k),
-            index_at(v, l),
-        ),
-        MapSrc::W21(i, j) => mean_first_twice(index_at(v, i), index_at(v, j)),
-        MapSrc::W12(i, j) => mean_second_twice(index_at(v, i), index_at(v, j)),
+        MapSrc::Single(i) => at(v, i),
+        MapSrc::Avg(i, j) => T::of_two(at(v, i), at(v, j)),
+        MapSrc::Avg4(i, j, k, l) => T::of_four(at(v, i), at(v, j), at(v, k), at(v, l)),
+        MapSrc::W21(i, j) => T::first_twice(at(v, i), at(v, j)),
+        MapSrc::W12(i, j) => T::second_twice(at(v, i), at(v, j)),
     }
 }
 
-// The coefficient at a band, 0 past the end.
-fn coefficient_at(v: &[f64], band: usize) -> f64
-    ensures { result ≡ coefficient_at v.now band }
+// The number that the source at a place makes, and what stands past a row's end where there is none.
+fn placed<T: Averaged>(sources: &[MapSrc], v: &[T], place: usize) -> T
+    ensures { result ≡ get_or (map (made T.averages v.now) sources.now) place T.averages.none }
 {
-    if band < v.len() { v[band] } else { 0.0 }
+    match sources.get(place) {
+        Some(source) => made(*source, v),
+        None => T::none(),
+    }
 }
 
-// The coefficient that a source makes.
-pub fn coefficient_of(source: MapSrc, v: &[f64]) -> f64
-    ensures { result ≡ coefficient_from v.now source }
+// A row brought to a layout's bands from those of the other layout.
+pub fn brought<T: Averaged>(v: &[T], layout: Layout) -> [T; 34]
+    ensures { result ≡ padded 34 T.averages.none (map (made T.averages v.now) (sources_of layout)) }
 {
-    match source {
-        MapSrc::Single(i) => coefficient_at(v, i),
-        MapSrc::Avg(i, j) => (coefficient_at(v, i) + coefficient_at(v, j)) / 2.0,
-        MapSrc::Avg4(i, j, k, l) => (coefficient_at(v, i)
-            + coefficient_at(v, j)
-            + coefficient_at(v, k)
-            + coefficient_at(v, l))
-            / 4.0,
-        MapSrc::W21(i, j) => (2.0 * coefficient_at(v, i) + coefficient_at(v, j)) / 3.0,
-        MapSrc::W12(i, j) => (coefficient_at(v, i) + 2.0 * coefficient_at(v, j)) / 3.0,
-    }
+    let sources = sources(layout);
+    std::array::from_fn(|i| placed(sources, v, i))
 }

@@ -1,6 +1,6 @@
 -- `fixed::unit` meets its contract: the cast is asked of what the machine reads back from n's bits, which is n, and the literal is 2^52.
 -- Assumes nothing.
-use Rattle.std.proofs.Common.{◌≡◌, false, pos, refl, w64, rules}
+use Rattle.std.proofs.Common.{◌≡◌, false, pos, refl, w64}
 use lib.Ieee.{fin, binary64, of_bits}
 use mir.ValLaws.{to_z-of_z}
 use Rattle.fixed.proofs.unit.Goals as goal

@@ -13,7 +13,7 @@ use Rattle.ps_input.proofs.Limits.{sample_tested}
 use Rattle.ps_input.proofs.samples_fit.Goals as goal
 
 pub loop-x-init : goal.loop-x-init
-loop-x-init c = sym (all_of sample_fits [] nan (λ i u. absurd (omega arith)))
+loop-x-init c = refl
 
 pub loop-x-preserved : goal.loop-x-preserved
 loop-x-preserved c =

@@ -1,6 +1,5 @@
 -- `ps_map::parameter_map` meets its contract: each table of the source is the definition's. Assumes nothing.
 use mathlib.Core.Path.{refl}
-use borrow.Author.Rules.{rules}
 use Rattle.ps_map.specs.Bands.{bands20, bands34}
 use Rattle.ps_map.proofs.parameter_map.Goals as goal
 

@@ -1,9 +1,0 @@
--- Each turn passes an index.
-use Rattle.std.proofs.Common.{◌-◌, ◌≤◌}
-use Rattle.map_replay.proofs.same.Given as goal
-
-abbrev pub invariant-loop-i : goal.invariant-loop-i
-invariant-loop-i l = l.i ≤ 34
-
-abbrev pub decreases-loop-i : goal.decreases-loop-i
-decreases-loop-i l = 34 - l.i
