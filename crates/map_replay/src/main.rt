@@ -71,7 +71,7 @@ fn holds(entry: &[u8]) -> bool
     let got = ps_map::map_indices(&row[..count], target);
     let mapping = got.mapping;
     let answer = mapping.answer();
-    if answer.number() != entry[42] {
+    if u8::from(answer) != entry[42] {
         return false;
     }
     let mapped = got.row;
