@@ -36,7 +36,7 @@ abbrev below : ℕ → MapSrc → Bool
 below n source = all (λ (i : ℕ). ltb i n) (places source)
 
 tested : (old new : Layout) → same_layout old new ≡ false → all (below (bands_of old)) (sources_of new) ≡ true
-unfolding all map20to34 map34to20 same_layout
+unfolding map20to34 map34to20 same_layout
 tested Bands20 Bands20 e = absurd (true≢false e)
 tested Bands20 Bands34 e = refl
 tested Bands34 Bands20 e = refl

@@ -15,7 +15,7 @@ use Rattle.layout.specs.Numbers.{bands_of}
 use Rattle.ps_map.specs.Bands.{bands20, bands34, parameter_map, band_of}
 
 tested : (l : Layout) → all (λ (b : ℕ). ltb b (bands_of l)) (parameter_map l) ≡ true
-unfolding all bands20 bands34
+unfolding bands20 bands34
 tested Bands20 = refl
 tested Bands34 = refl
 

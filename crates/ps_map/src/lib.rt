@@ -146,14 +146,7 @@ fn value_fits(value: i8) -> bool
 fn all_values_fit(v: &[i8]) -> bool
     ensures { result ≡ all value_fits v.now }
 {
-    let mut i = 0;
-    while i < v.len() {
-        if !value_fits(v[i]) {
-            return false;
-        }
-        i += 1;
-    }
-    true
+    v.iter().all(|x| value_fits(*x))
 }
 
 fn length_fits(count: usize) -> bool

@@ -14,11 +14,10 @@ use Rattle.text_lines.specs.declared.Reached.{Reached}
 use Rattle.text_lines.proofs.Room.{drop_cut, laid_length}
 
 pub before_most : (f : ℕ → Bool) (l : List ℕ) → before f l ≤ length l
-unfolding before
 before_most f [] = omega arith
 before_most f (x ∷ l) = go (f x) (before_most f l)
   where
-    go : (t : Bool) → before f l ≤ length l → cond t (suc (before f l)) 0 ≤ suc (length l)
+    go : (t : Bool) → before f l ≤ length l → cond t (1 + before f l) 0 ≤ suc (length l)
     go true h = omega arith
     go false h = omega arith
 

@@ -87,13 +87,12 @@ holds_parts parts line few = holds_on parts (record { line = line; count = 0 }) 
 
 -- ---- a cut changes nothing: what a line has in two pieces, of which the first has no newline, is what it has in them joined
 before_on : (f : ℕ → Bool) (a b : List ℕ) → length a ≤ before f a → before f (a ++ b) ≡ length a + before f b
-unfolding before
 before_on f [] b h = sym (zero-add (before f b))
 before_on f (x ∷ a) b h = go (λ k. before_on f a b k) (f x) h
   where
     go : (length a ≤ before f a → before f (a ++ b) ≡ length a + before f b) → (t : Bool)
-        → suc (length a) ≤ cond t (suc (before f a)) 0 → cond t (suc (before f (a ++ b))) 0 ≡ suc (length a) + before f b
-    go on true k = rw suc-add (ap suc (on (omega arith)))
+        → suc (length a) ≤ cond t (1 + before f a) 0 → cond t (1 + before f (a ++ b)) 0 ≡ suc (length a) + before f b
+    go on true k = let e = on (omega arith) in omega arith
     go on false k = absurd (omega arith)
 
 module _ (piece more : List ℕ) (from : ℕ) (inside : from ≤ length piece) (whole : length piece ≤ from + length (part_of piece from)) where

@@ -12,7 +12,6 @@ use Rattle.ps_input.proofs.Limits.{sample_tested}
 use Rattle.ps_input.proofs.samples_fit.Goals as goal
 
 pub loop-i-init : goal.loop-i-init
-unfolding all
 loop-i-init c = (omega arith, refl)
 
 pub loop-i-preserved : goal.loop-i-preserved
