@@ -1,3 +1,4 @@
+pub mod Pieces
 pub mod Room
 pub mod Steps
 pub mod Whole

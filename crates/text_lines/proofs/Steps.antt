@@ -1,72 +1,53 @@
--- What a step answers, from the place where it starts and the characters before the newline; and where that place leads. Assumes nothing.
-use mathlib.Core.Path.{◌≡◌, sym, ap, ◌∙◌}
-use mathlib.Core.Bool.{Bool, true, false, cond}
-use mathlib.Core.List.{List, [], ◌∷◌}
-use Prim.Native.Nat.{ℕ, suc, ◌+◌, ◌-◌, ◌≤◌, ◌<◌, min}
-use native.Mathlib.Nat.{add-sub_cancel_left}
-use native.Mathlib.Omega.{arith}
-use borrow.Author.Tests.{lt-ltb, le-ltb}
-use lib.ListN.{length, take, drop, length-drop}
-use lib.Seq.{length-take-le}
+-- What a step leaves, from the characters before the newline; and that what comes behind is shorter. Assumes nothing.
+use Rattle.std.proofs.Common.{◌≡◌, ℕ, ◌+◌, ◌-◌, ◌<◌, ◌≤◌, ltb, Bool, true, false, cond, List, Option, Some, None, Bor, length, take, drop, refl, inl, inr, sym, ap, ◌∙◌, arith, length-take-le, length-drop, option_map}
+use Rattle.std.specs.List.{PartBy}
+use Rattle.std.proofs.lemmas.List.{drop-drop}
+use Rattle.std.proofs.lemmas.List.Sums.{prefix_len-le-length}
+use lib.Seq.{take_all}
+use borrow.Author.Tests.{lt-ltb, le-ltb, ltb-true}
 use Rattle.lists.specs.First.{before}
-use Rattle.text_lines.specs.Lines.{of_line, part_of, counted, laid, Stepped, stepped, step_of}
-use Rattle.text_lines.specs.declared.Reached.{Reached}
-use Rattle.text_lines.proofs.Room.{drop_cut, laid_length}
+use Rattle.text_lines.specs.Lines.{of_line, part_of, behind, counted, laid, stepped, step_of}
 
-pub before_most : (f : ℕ → Bool) (l : List ℕ) → before f l ≤ length l
-before_most f [] = omega arith
-before_most f (x ∷ l) = go (f x) (before_most f l)
-  where
-    go : (t : Bool) → before f l ≤ length l → cond t (1 + before f l) 0 ≤ suc (length l)
-    go true h = omega arith
-    go false h = omega arith
+pub part_size : (piece : List ℕ) → length (part_of piece) ≡ before of_line piece
+unfolding part_of
+part_size piece = length-take-le (before of_line piece) piece (prefix_len-le-length of_line piece)
 
-module _ (line piece : List ℕ) (count from start size : ℕ) (s : start ≡ min from (length piece)) (n : size ≡ before of_line (drop start piece)) where
-  same_rest : drop start piece ≡ drop from piece
-  same_rest = ap (λ (k : ℕ). drop k piece) s ∙ drop_cut from piece
+pub part_is : (piece : List ℕ) (size : ℕ) → size ≡ before of_line piece → take size piece ≡ part_of piece
+unfolding part_of
+part_is piece size n = rw n refl
 
-  pub step_within : start + size ≤ length piece
-  step_within =
-      let few : size ≤ length piece - start = rw (n, ← length-drop start piece) (before_most of_line (drop start piece)) in
-      omega arith
+module _ (piece rest : List ℕ) (size : ℕ) (n : size ≡ before of_line piece) (b : rest ≡ drop size piece) where
+  rest_size : length rest ≡ length piece - length (part_of piece)
+  rest_size = ap length b ∙ length-drop size piece ∙ ap (λ k. length piece - k) (n ∙ sym (part_size piece))
 
-  pub step_part : take size (drop start piece) ≡ part_of piece from
-  unfolding part_of
-  step_part = rw (n, same_rest)
+  rest_one : drop 1 rest ≡ drop (length (part_of piece) + 1) piece
+  rest_one = ap (drop 1) b ∙ drop-drop 1 size piece ∙ ap (λ k. drop (k + 1) piece) (n ∙ sym (part_size piece))
 
-  part_size : length (part_of piece from) ≡ size
-  part_size = ap length (sym step_part) ∙ length-take-le size (drop start piece) (rw (n) (before_most of_line (drop start piece)))
+  pub behind_is : (r : Option (Bor (List ℕ))) → PartBy (λ (x : Bor (List ℕ)). x.now) rest 1 (length rest) r → option_map (λ (x : Bor (List ℕ)). x.now) r ≡ behind piece
+  unfolding behind
+  behind_is None h =
+      let few : length piece ≤ length (part_of piece) = elim h.0 [ inl a ↦ omega (arith, a, rest_size) | inr a ↦ omega (arith, a) ] in
+      rw (le-ltb (length (part_of piece)) (length piece) few) refl
+  behind_is (Some x) h =
+      let more : length (part_of piece) < length piece = omega (arith, h.0.0, rest_size) in
+      let is : x.now ≡ drop 1 rest = h.0.2 ∙ take_all (length rest - 1) (drop 1 rest) (rw (length-drop 1 rest) (omega arith)) in
+      rw (lt-ltb (length (part_of piece)) (length piece) more) (ap Some (is ∙ rest_one))
 
-  -- with the count and the room that the code has
-  module _ (after : ℕ) (room : List ℕ) (all : after ≡ counted count size) (is : room ≡ laid line count (take (start + size - start) (drop start piece))) where
-    room_is : room ≡ laid line count (part_of piece from)
-    room_is = is ∙ ap (λ (k : ℕ). laid line count (take k (drop start piece))) (add-sub_cancel_left start size) ∙ ap (laid line count) step_part
+pub stepped_is : (room piece : List ℕ) (count : ℕ) (r : Option (List ℕ)) (held : List ℕ) (after : ℕ) → r ≡ behind piece → held ≡ laid room count (part_of piece)
+    → after ≡ counted count (length (part_of piece)) → stepped r held after ≡ step_of room count piece
+unfolding step_of
+stepped_is room piece count r held after e f g = rw (e, f, g) refl
 
-    pub step_ended : start + size < length piece → record { next = start + size + 1; count = after; ended = true; line = room } ≡ step_of line count piece from
-    unfolding step_of
-    step_ended h =
-        let next : min (from + size + 1) (length piece) ≡ start + size + 1 = omega arith in
-        let far : from + size < length piece = omega arith in
-        simp (all, room_is, part_size, next, lt-ltb (from + size) (length piece) far)
-
-    pub step_open : length piece ≤ start + size → record { next = start + size; count = after; ended = false; line = room } ≡ step_of line count piece from
-    unfolding step_of
-    step_open h =
-        let inside = step_within in
-        let next : min (from + size + 1) (length piece) ≡ start + size = omega arith in
-        let far : length piece ≤ from + size = omega arith in
-        simp (all, room_is, part_size, next, le-ltb (from + size) (length piece) far)
-
--- ---- for a loop over a piece: each step goes on, and no further than the end; the room stays as long as it is
-module _ (line piece : List ℕ) (count from : ℕ) {r : Reached} {room : List ℕ} (e : stepped r room ≡ step_of line count piece from) where
-  pub step_on : from < length piece → from < r.next
-  unfolding step_of
-  step_on h = omega (arith, ap (λ (s : Stepped). s.next) e)
-
-  pub step_most : r.next ≤ length piece
-  unfolding step_of
-  step_most = omega (arith, ap (λ (s : Stepped). s.next) e)
-
-  pub step_room : length room ≡ length line
-  unfolding step_of
-  step_room = ap (λ (s : Stepped). length s.line) e ∙ laid_length line count (part_of piece from)
+-- ---- for a loop over a piece
+module _ (piece rest : List ℕ) (e : Some rest ≡ behind piece) where
+  -- what comes behind is shorter
+  pub behind_shorter : length rest < length piece
+  unfolding behind
+  behind_shorter = go (ltb (length (part_of piece)) (length piece)) refl e
+    where
+      go : (t : Bool) → ltb (length (part_of piece)) (length piece) ≡ t → Some rest ≡ cond t (Some (drop (length (part_of piece) + 1) piece)) None → length rest < length piece
+      go true p q =
+          let r : rest ≡ drop (length (part_of piece) + 1) piece = cc in
+          let k = ltb-true (length (part_of piece)) (length piece) p in
+          omega (arith, ap length r ∙ length-drop (length (part_of piece) + 1) piece)
+      go false p q = absurd cc

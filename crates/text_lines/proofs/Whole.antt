@@ -3,14 +3,14 @@ use mathlib.Core.Path.{◌≡◌, refl, sym, ap, ◌∙◌}
 use mathlib.Core.Bool.{Bool, true, false, cond}
 use mathlib.Core.List.{List, [], ◌∷◌, ◌++◌, append_assoc, append-nil, flatten, foldl}
 use Prim.Native.Nat.{ℕ, zero, suc, ◌+◌, ◌≤◌, min}
-use native.Mathlib.Nat.{zero-add, suc-add}
+use native.Mathlib.Nat.{zero-add}
 use native.Mathlib.Omega.{arith}
-use lib.ListN.{length, take, drop, length-append, length-take, length-drop}
-use lib.Seq.{take-nil, take_all, length-take-le, take-append-add, drop-append-le}
+use lib.ListN.{length, take, drop, length-append, length-take}
+use lib.Seq.{take-nil, take_all, length-take-le, take-append-add}
 use Rattle.lists.specs.First.{before}
 use Rattle.text_lines.specs.Lines.{of_line, part_of, most, counted, laid, step_of, Holds}
 use Rattle.text_lines.proofs.Room.{take_cut, laid_length, laid_cut}
-use Rattle.text_lines.proofs.Steps.{before_most}
+use Rattle.std.proofs.lemmas.List.Sums.{prefix_len-le-length}
 
 -- ---- a part more
 -- the first n of a text with more behind it
@@ -46,9 +46,9 @@ module _ {line : List ℕ} {count : ℕ} {text : List ℕ} (few : length line �
       }
 
   -- a step
-  pub holds_step : (piece : List ℕ) (from : ℕ) → Holds (step_of line count piece from).line (step_of line count piece from).count (text ++ part_of piece from)
+  pub holds_step : (piece : List ℕ) → Holds (step_of line count piece).room (step_of line count piece).count (text ++ part_of piece)
   unfolding step_of
-  holds_step piece from = holds_more (part_of piece from)
+  holds_step piece = holds_more (part_of piece)
 
   -- ---- what is held is the text's beginning
   pub held_first : take count line ≡ take (length line) text
@@ -95,22 +95,19 @@ before_on f (x ∷ a) b h = go (λ k. before_on f a b k) (f x) h
     go on true k = let e = on (omega arith) in omega arith
     go on false k = absurd (omega arith)
 
-module _ (piece more : List ℕ) (from : ℕ) (inside : from ≤ length piece) (whole : length piece ≤ from + length (part_of piece from)) where
-  abbrev rest : List ℕ
-  rest = drop from piece
-
-  none : length rest ≤ before of_line rest
+module _ (piece more : List ℕ) (whole : length piece ≤ length (part_of piece)) where
+  none : length piece ≤ before of_line piece
   unfolding part_of
   none =
-      let size : length (part_of piece from) ≡ before of_line rest = length-take-le (before of_line rest) rest (before_most of_line rest) in
-      rw (length-drop from piece) (omega arith)
+      let size : length (part_of piece) ≡ before of_line piece = length-take-le (before of_line piece) piece (prefix_len-le-length of_line piece) in
+      omega arith
 
-  rest_is : part_of piece from ≡ rest
+  piece_is : part_of piece ≡ piece
   unfolding part_of
-  rest_is = take_all (before of_line rest) rest none
+  piece_is = take_all (before of_line piece) piece none
 
-  pub part_cut : part_of (piece ++ more) from ≡ part_of piece from ++ part_of more 0
+  pub part_cut : part_of (piece ++ more) ≡ part_of piece ++ part_of more
   unfolding part_of
   part_cut =
-      rw (drop-append-le from piece more inside, before_on of_line rest more none, take-append-add rest more (before of_line more))
-      (ap (λ (t : List ℕ). t ++ take (before of_line more) more) (sym rest_is))
+      rw (before_on of_line piece more none, take-append-add piece more (before of_line more))
+      (ap (λ (t : List ℕ). t ++ take (before of_line more) more) (sym piece_is))

@@ -1,86 +1,78 @@
-// Lines out of pieces of a text, however the pieces cut them. A line that has begun is the count of all its characters, beside lent room that holds the
-// first of them: so memory does not grow with the text, and of a line that is longer than the room the count is known still.
+// Lines out of pieces of a text, however the pieces cut them. A line that has begun is the count of all its characters, beside room that holds the first of
+// them: so memory does not grow with the text, and of a line that is longer than the room the count is known still.
 #![tactic(auto)]
 
-ghost use Rattle.std.specs.Prelude.{◌≡◌, take};
+ghost use Rattle.std.specs.Prelude.{◌≡◌, take, replicate, option_map};
+ghost use Rattle.std.specs.Fn.{CalledAt};
+ghost use Rattle.std.specs.List.{FoldsTo};
 ghost use Rattle.lists.specs.First.{before};
-ghost use Rattle.text_lines.specs.Lines.{of_line, counted, laid, stepped, step_of};
+ghost use Rattle.text_lines.specs.Lines.{of_line, laid, stepped, step_of, begun, left_by, ended_in};
 
-// Where a step has come to: the place of the piece to go on from, how many characters the line has had, and whether it has ended.
 #[derive(Clone, Copy)]
-pub struct Reached {
-    pub next: usize,
+pub struct Line<const N: usize> {
+    pub room: [u8; N],
+    // How many characters it has had: a count that stays at the largest number where there is none for it.
     pub count: u64,
-    pub ended: bool,
 }
 
 // How many characters stand before the first newline; all of them where there is none.
 fn before_newline(text: &[u8]) -> usize
     ensures { result ≡ before of_line text.now }
 {
-    let mut i = 0;
-    while i < text.len() {
-        if text[i] == b'\n' {
-            return i;
-        }
-        i += 1;
-    }
-    i
-}
-
-// A count that stays at the largest number where there is none for it.
-fn add(count: u64, more: usize) -> u64
-    ensures { result ≡ counted count more }
-{
-    let most = u64::MAX - count;
-    if most < more as u64 {
-        return u64::MAX;
-    }
-    count + more as u64
+    text.iter().take_while(|c| **c != b'\n').count()
 }
 
 // Holds a part of a line behind the characters that it has had, as far as there is room.
-fn hold(line: &mut [u8], count: u64, part: &[u8])
-    ensures { line.new ≡ laid line.old count part.now }
+fn hold(room: &mut [u8], count: usize, part: &[u8])
+    ensures { room.new ≡ laid room.old count part.now }
 {
-    let mut place = limits::least(count as usize, line.len());
-    let mut i = 0;
-    while i < part.len() {
-        if place < line.len() {
-            line[place] = part[i];
-            place += 1;
+    let place = count.min(room.len());
+    let size = part.len().min(room.len() - place);
+    room[place..place + size].copy_from_slice(&part[..size]);
+}
+
+impl<const N: usize> Line<N> {
+    // A line that has no character yet.
+    pub fn new() -> Self
+        ensures room { result.room ≡ replicate N 0 }
+        ensures count { result.count ≡ 0 }
+    {
+        Line {
+            room: [0; N],
+            count: 0,
         }
-        i += 1;
     }
-}
 
-// Takes the characters of a piece, from a place on, that are of the line that has begun, and the newline behind them where there is one.
-pub fn step(line: &mut [u8], count: u64, piece: &[u8], from: usize) -> Reached
-    ensures { stepped result line.new ≡ step_of line.old count piece.now from }
-{
-    let start = limits::least(from, piece.len());
-    let size = before_newline(&piece[start..]);
-    let end = start + size;
-    hold(line, count, &piece[start..end]);
-    let after = add(count, size);
-    if end < piece.len() {
-        return Reached {
-            next: end + 1,
-            count: after,
-            ended: true,
-        };
+    // What is held of it: its first characters.
+    pub fn held(&self) -> &[u8]
+        ensures { result.now ≡ take self.now.count self.now.room }
+    {
+        let end = (self.count as usize).min(N);
+        &self.room[..end]
     }
-    Reached {
-        next: end,
-        count: after,
-        ended: false,
-    }
-}
 
-// What is held of a line: its first characters.
-pub fn held(line: &[u8], count: u64) -> &[u8]
-    ensures { result.now ≡ take count line.now }
-{
-    let end = limits::least(count as usize, line.len());
-    &line[..end]
+    // Takes the characters of a piece that are of the line, and answers what comes behind its newline, where there is one.
+    pub fn take<'a>(&mut self, piece: &'a [u8]) -> Option<&'a [u8]>
+        ensures { stepped (option_map (λ x. x.now) result) self.new.room self.new.count ≡ step_of self.old.room self.old.count piece.now }
+    {
+        let size = before_newline(piece);
+        let (part, rest) = piece.split_at(size);
+        hold(&mut self.room, self.count as usize, part);
+        self.count = self.count.saturating_add(size as u64);
+        rest.get(1..)
+    }
+
+    // Takes a piece of the text: `end` is handed each line that ends in it, and the line is then the one that the piece leaves begun.
+    pub fn each<F: FnMut(&[u8])>(&mut self, piece: &[u8], mut end: F)
+        requires { F.IsAlwaysCallable end }
+        ensures lines { (last : F) × FoldsTo (λ p x q. CalledAt F.FnMut p x tt q) end (ended_in self.old.room self.old.count piece.now) last }
+        ensures left { begun self.new.room self.new.count ≡ left_by self.old.room self.old.count piece.now }
+    {
+        let mut rest = piece;
+        while let Some(behind) = self.take(rest) {
+            end(self.held());
+            self.count = 0;
+            rest = behind;
+        }
+    }
 }
