@@ -9,12 +9,12 @@ ghost use Rattle.std.specs.Prelude.{◌≡◌, ◌++◌, ℕ, suc, ◌+◌, ◌*
 ghost use Rattle.borders.specs.Borders.{slots_of};
 ghost use Rattle.complex.specs.Operations.{sum};
 ghost use Rattle.decimals.specs.Prototypes.{prototype_of};
-ghost use Rattle.layout.specs.Numbers.{split_of, unsplit_from_of};
+ghost use Rattle.layout.specs.Numbers.{split_of, unsplit_from_of, first_channel_of};
 ghost use Rattle.lists.specs.Rows.{rows};
 ghost use Rattle.planar.specs.Cells.{cell, planar, overwritten};
 ghost use Rattle.planar.specs.Frame.{sample_at};
 ghost use Rattle.standard.specs.Numbers.{nought};
-ghost use Rattle.standard.specs.Hybrid.{prototype_for, filters_of, channel_for, first_channel_of, filtered, joined_to, hybrid};
+ghost use Rattle.standard.specs.Hybrid.{prototype_for, filters_of, channel_for, filtered, joined_to, hybrid};
 ghost use Rattle.ps_hybrid_analysis.specs.Analysis.{slot_at, answer_of, history_after, samples_after};
 ghost use Rattle.ps_hybrid_analysis.specs.Stages.{Waves, band_at, Written};
 
@@ -122,8 +122,8 @@ fn filter_band(layout: Layout, p: usize, band: &[f64], slots: usize, samples: &m
     ensures { Written slots (first_channel_of layout p) (first_channel_of layout (suc p))
         (λ k n. joined_to layout p (cell 44 band.now) n k (filters_of (prototype_for layout p))) samples.old samples.new }
 {
-    let from = plan::span(layout, p);
-    let to = plan::span(layout, p + 1);
+    let from = layout.first_channel(p);
+    let to = layout.first_channel(p + 1);
     let prototype = plan::prototype_for(layout, p);
     silence(samples, from, to, slots);
     modulate(layout, p, prototype, band, slots, samples);
