@@ -19,8 +19,8 @@ silence-requires c =
     let p = c.args.p in
     let to : c.first_channel-to.result ≡ first_channel_of l (suc p) = rw (add-one p) at c.first_channel-to.ensures in (
       omega (arith, c.first_channel-from.ensures, to, (spans l p).rises),
-      omega (arith, to, (spans l (suc p)).most, c.requires.band_len.1.0),
-      c.requires.band_len.1.1,
+      omega (arith, to, (spans l (suc p)).most, c.requires.room.0),
+      c.requires.room.1,
     )
 
 pub modulate-requires : goal.modulate-requires
@@ -28,7 +28,7 @@ modulate-requires c =
     let p = c.args.p in
     record {
       prototype_value = (c.prototype_for-prototype.ensures, c.requires.p_bound);
-      band_len = (c.requires.band_len.0, (rw c.silence.ensures.long c.requires.band_len.1.0, c.requires.band_len.1.1));
+      room = (rw c.silence.ensures.long c.requires.room.0, c.requires.room.1);
       by_index = silenced c.args.layout p c.silence.ensures c.first_channel-from.ensures (rw (add-one p) at c.first_channel-to.ensures);
     }
 
