@@ -8,11 +8,11 @@ use lib.Dec.{eqb, ltb}
 use Rattle.complex.specs.declared.Complex.{Complex}
 use Rattle.complex.specs.Operations.{sum}
 use Rattle.layout.specs.declared.Layout.{Layout}
-use Rattle.layout.specs.Numbers.{channels_of, split_of, unsplit_from_of}
+use Rattle.layout.specs.Numbers.{channels_of, split_of, unsplit_from_of, first_channel_of}
 use Rattle.layout.proofs.Bounds.{bounds}
 use Rattle.lists.proofs.Maps.{tabulate_same}
 use Rattle.planar.specs.Frame.{qmf_rows}
-use Rattle.standard.specs.Hybrid.{filters_of, prototype_for, joined_to, first_channel_of, band_below, hybrid, added_to, synthesised}
+use Rattle.standard.specs.Hybrid.{filters_of, prototype_for, joined_to, band_below, hybrid, added_to, synthesised}
 use Rattle.standard.proofs.Spans.{spans}
 
 -- ---- analysis

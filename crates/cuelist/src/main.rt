@@ -46,14 +46,14 @@ fn list_line(out: &impl Print, before: Listing, line: &[u8]) -> Listing {
     let indices = got.indices;
     let Ok(header) = read else {
         let refusal = cue::answer_of(read);
-        let written = write_line(out, number, refusal.number(), indices);
+        let written = write_line(out, number, u8::from(refusal), indices);
         let mut after = before;
         after.number = number;
         after.count = 0;
         return noted(after, written);
     };
     let answer = ps_data::read_answer(header, lines.configured);
-    let written = write_line(out, number, answer.number(), indices);
+    let written = write_line(out, number, u8::from(answer), indices);
     let mut after = before;
     after.lines = got.lines;
     after.number = number;

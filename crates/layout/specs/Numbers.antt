@@ -1,5 +1,5 @@
 -- The numbers of the two layouts: §8.6.4.3 for the split bands, §8.6.4.5.1 for the others, Annex 8.A.3 for the reset. Assumes nothing.
-use Rattle.std.specs.Prelude.{ℕ, ◌+◌, min, cond, ltb}
+use Rattle.std.specs.Prelude.{ℕ, ◌+◌, min, cond, ltb, [], ◌∷◌, get_or}
 use Rattle.layout.specs.declared.Kind.{Kind}
 use Rattle.layout.specs.declared.Kind.TheVariants.{AllPass, Long, Short}
 use Rattle.layout.specs.declared.Layout.{Layout}
@@ -24,6 +24,11 @@ split_of Bands34 = 5
 abbrev pub unsplit_from_of : Layout → ℕ
 unsplit_from_of Bands20 = 10
 unsplit_from_of Bands34 = 32
+
+-- the first hybrid channel of a split band, and that of the band after it
+abbrev pub first_channel_of : Layout → ℕ → ℕ
+first_channel_of Bands20 p = get_or (0 ∷ 6 ∷ 8 ∷ []) p 10
+first_channel_of Bands34 p = get_or (0 ∷ 12 ∷ 20 ∷ 24 ∷ 28 ∷ []) p 32
 
 -- NR_ALLPASS_BANDS
 abbrev pub all_pass_of : Layout → ℕ

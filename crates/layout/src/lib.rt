@@ -2,7 +2,7 @@
 #![tactic(auto)]
 
 ghost use Rattle.std.specs.Prelude.{◌≡◌, ◌≤◌};
-ghost use Rattle.layout.specs.Numbers.{bands_of, channels_of, split_of, unsplit_from_of, all_pass_of, short_delay_of, groups_of, kind_of, decay_cutoff_of, edge_shift_of, reset_from_of};
+ghost use Rattle.layout.specs.Numbers.{bands_of, channels_of, split_of, unsplit_from_of, first_channel_of, all_pass_of, short_delay_of, groups_of, kind_of, decay_cutoff_of, edge_shift_of, reset_from_of};
 
 #[derive(Clone, Copy)]
 pub struct Twenty;
@@ -105,6 +105,19 @@ impl Layout {
         }
     }
 
+    // The first hybrid channel of split QMF band p, or of the band after the last.
+    pub fn first_channel(self, p: usize) -> usize
+        ensures { result ≡ first_channel_of self p }
+    {
+        match self {
+            Layout::Bands20 => [0, 6, 8].get(p).copied().unwrap_or(Twenty::UNSPLIT_FROM),
+            Layout::Bands34 => [0, 12, 20, 24, 28]
+                .get(p)
+                .copied()
+                .unwrap_or(ThirtyFour::UNSPLIT_FROM),
+        }
+    }
+
     // Channels with an all-pass chain, the first ones.
     pub fn all_pass(self) -> usize
         ensures { result ≡ all_pass_of self }
@@ -176,8 +189,6 @@ impl Layout {
     pub fn reset_from(self, edge: usize) -> usize
         ensures { result ≡ reset_from_of self edge }
     {
-        let shift = self.edge_shift();
-        let channels = self.channels();
-        limits::least(limits::least(edge, 64) + shift, channels)
+        (edge.min(64) + self.edge_shift()).min(self.channels())
     }
 }

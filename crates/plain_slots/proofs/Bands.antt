@@ -9,8 +9,8 @@ use lib.Ieee.{Float}
 use lib.ListN.{length}
 use Rattle.complex.specs.declared.Complex.{Complex}
 use Rattle.layout.specs.declared.Layout.{Layout}
-use Rattle.layout.specs.Numbers.{channels_of, split_of, unsplit_from_of}
-use Rattle.standard.specs.Hybrid.{first_channel_of, added_to, synthesised}
+use Rattle.layout.specs.Numbers.{channels_of, split_of, unsplit_from_of, first_channel_of}
+use Rattle.standard.specs.Hybrid.{added_to, synthesised}
 use Rattle.standard.proofs.Spans.{spans}
 use Rattle.plain_slots.specs.Rows.{in_row, qmf_after}
 use Rattle.plain_slots.proofs.Carried.{Carried, carried_both}

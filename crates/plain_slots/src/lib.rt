@@ -7,7 +7,7 @@ ghost use Rattle.complex.specs.Operations.{product, sum};
 ghost use Rattle.layout.specs.Numbers.{channels_of, split_of};
 ghost use Rattle.planar.specs.Cells.{cell, stored};
 ghost use Rattle.ps_map.specs.Bands.{band_of};
-ghost use Rattle.standard.specs.Hybrid.{first_channel_of, added_to};
+ghost use Rattle.standard.specs.Hybrid.{added_to};
 ghost use Rattle.standard.specs.Mixing as mixing;
 ghost use Rattle.plain_slots.specs.Rows.{samples_after, left_after, right_after, qmf_after};
 
@@ -144,28 +144,6 @@ fn added(hybrid: &[f64], from: usize, count: usize) -> Complex
     sum
 }
 
-// The first hybrid channel of a split band, or of the band after the last.
-fn first_channel(layout: Layout, q: usize) -> usize
-    ensures { result ≡ first_channel_of layout q }
-{
-    match layout {
-        Layout::Bands20 => match q {
-            0 => 0,
-            1 => 6,
-            2 => 8,
-            _ => 10,
-        },
-        Layout::Bands34 => match q {
-            0 => 0,
-            1 => 12,
-            2 => 20,
-            3 => 24,
-            4 => 28,
-            _ => 32,
-        },
-    }
-}
-
 // A side's hybrid samples to the slot's 64 QMF bands. Nothing changes where a list is too short.
 pub fn synthesise(layout: Layout, hybrid: &[f64], row: &mut [f64])
     ensures { row.new ≡ qmf_after layout hybrid.now row.old }
@@ -179,8 +157,8 @@ pub fn synthesise(layout: Layout, hybrid: &[f64], row: &mut [f64])
     let split = layout.split();
     let unsplit = layout.unsplit_from();
     for q in 0..split {
-        let from = first_channel(layout, q);
-        let next = first_channel(layout, q + 1);
+        let from = layout.first_channel(q);
+        let next = layout.first_channel(q + 1);
         put(row, q, added(hybrid, from, next - from));
     }
     for q in split..64 {

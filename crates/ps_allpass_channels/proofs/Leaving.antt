@@ -13,7 +13,7 @@ use lib.Ieee.{Float, nan}
 use lib.ListN.{length, get_or}
 use Rattle.complex.specs.declared.Complex.{Complex}
 use Rattle.layout.specs.declared.Layout.{Layout}
-use Rattle.layout.specs.Numbers.{split_of, unsplit_from_of}
+use Rattle.layout.specs.Numbers.{split_of, unsplit_from_of, first_channel_of}
 use Rattle.lists.specs.Part.{part, put}
 use Rattle.lists.proofs.Parts.{part_length, part_at, put_before, put_within, put_behind}
 use Rattle.planar.specs.Cells.{cell, stored}
@@ -21,7 +21,7 @@ use Rattle.planar.specs.Frame.{qmf_at}
 use Rattle.planar.proofs.Cells.{by_parts, stored_length}
 use Rattle.planar.proofs.Pairs.{pair_same, pair_other}
 use Rattle.ps_allpass_groups.specs.Desk as desk
-use Rattle.standard.specs.Hybrid.{first_channel_of, added_to, synthesised}
+use Rattle.standard.specs.Hybrid.{added_to, synthesised}
 use Rattle.ps_allpass_channels.specs.Desks.{desk_of, standing, Rowed, Left}
 
 -- ---- bands of a row, one after the other

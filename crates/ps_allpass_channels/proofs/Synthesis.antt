@@ -8,9 +8,9 @@ use lib.Dec.{ltb}
 use Rattle.complex.specs.declared.Complex.{Complex}
 use Rattle.complex.specs.Operations.{sum}
 use Rattle.layout.specs.declared.Layout.{Layout}
-use Rattle.layout.specs.Numbers.{split_of, unsplit_from_of, all_pass_of}
+use Rattle.layout.specs.Numbers.{split_of, unsplit_from_of, all_pass_of, first_channel_of}
 use Rattle.layout.proofs.Bounds.{bounds}
-use Rattle.standard.specs.Hybrid.{first_channel_of, added_to, synthesised}
+use Rattle.standard.specs.Hybrid.{added_to, synthesised}
 use Rattle.standard.proofs.Spans.{spans}
 
 added_same : (y z : ℕ → Complex) (from count : ℕ) → ((i : ℕ) → i < count → y (from + i) ≡ z (from + i)) → added_to y from count ≡ added_to z from count

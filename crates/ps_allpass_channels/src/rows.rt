@@ -4,7 +4,7 @@ ghost use Rattle.complex.specs.Operations.{sum};
 ghost use Rattle.layout.specs.Numbers.{split_of};
 ghost use Rattle.planar.specs.Cells.{cell};
 ghost use Rattle.ps_allpass_groups.specs.Desk.{left_on, right_on};
-ghost use Rattle.standard.specs.Hybrid.{first_channel_of, added_to, synthesised};
+ghost use Rattle.standard.specs.Hybrid.{added_to, synthesised};
 ghost use Rattle.ps_allpass_channels.specs.Desks.{desk_of, standing, Rowed, Left};
 
 use complex::Complex;
@@ -81,28 +81,6 @@ fn added(desks: &[f64], place: usize, from: usize, end: usize) -> Complex
     add_channels(sum, desks, place, from, end)
 }
 
-// The first hybrid channel of split band p, and of the band after the last.
-fn first_channel(layout: Layout, p: usize) -> usize
-    ensures { result ≡ first_channel_of layout p }
-{
-    match layout {
-        Layout::Bands20 => match p {
-            0 => 0,
-            1 => 6,
-            2 => 8,
-            _ => 10,
-        },
-        Layout::Bands34 => match p {
-            0 => 0,
-            1 => 12,
-            2 => 20,
-            3 => 24,
-            4 => 28,
-            _ => 32,
-        },
-    }
-}
-
 // One side's split bands.
 fn add_split(layout: Layout, desks: &[f64], place: usize, row: &mut [f64])
     requires { (place ≤ 128) × ((length desks.now ≡ 1768) × (length row.old ≡ 128)) }
@@ -112,8 +90,8 @@ fn add_split(layout: Layout, desks: &[f64], place: usize, row: &mut [f64])
         let sum = added(
             desks,
             place,
-            first_channel(layout, p),
-            first_channel(layout, p + 1),
+            layout.first_channel(p),
+            layout.first_channel(p + 1),
         );
         row[2 * p] = sum.re;
         row[2 * p + 1] = sum.im;

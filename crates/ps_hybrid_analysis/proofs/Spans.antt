@@ -6,10 +6,10 @@ use native.Mathlib.Nat.{mul-le-mul}
 use native.Mathlib.Omega.{arith}
 use Rattle.layout.specs.declared.Layout.{Layout}
 use Rattle.layout.specs.declared.Layout.TheVariants.{Bands20, Bands34}
-use Rattle.layout.specs.Numbers.{split_of, unsplit_from_of}
+use Rattle.layout.specs.Numbers.{split_of, unsplit_from_of, first_channel_of}
 use Rattle.decimals.specs.declared.Prototype.{Prototype}
 use Rattle.decimals.specs.declared.Prototype.TheVariants.{EighthsOfBand0, Halves, Twelfths, EighthsOfBand1, Quarters}
-use Rattle.standard.specs.Hybrid.{prototype_for, filters_of, channel_for, first_channel_of}
+use Rattle.standard.specs.Hybrid.{prototype_for, filters_of, channel_for}
 use Rattle.standard.proofs.Spans.{spans}
 
 -- a product of two small factors

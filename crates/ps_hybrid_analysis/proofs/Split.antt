@@ -14,11 +14,11 @@ use Rattle.complex.specs.Operations.{sum}
 use Rattle.decimals.specs.declared.Prototype.{Prototype}
 use Rattle.layout.specs.declared.Layout.{Layout}
 use Rattle.layout.specs.declared.Layout.TheVariants.{Bands20, Bands34}
-use Rattle.layout.specs.Numbers.{split_of, unsplit_from_of}
+use Rattle.layout.specs.Numbers.{split_of, unsplit_from_of, first_channel_of}
 use Rattle.planar.specs.Cells.{cell}
 use Rattle.planar.specs.Frame.{sample_at}
 use Rattle.standard.specs.Numbers.{nought}
-use Rattle.standard.specs.Hybrid.{prototype_for, filters_of, filtered, channel_for, joined_to, first_channel_of, band_below, hybrid}
+use Rattle.standard.specs.Hybrid.{prototype_for, filters_of, filtered, channel_for, joined_to, band_below, hybrid}
 use Rattle.ps_hybrid_analysis.specs.Stages.{Written}
 use Rattle.ps_hybrid_analysis.proofs.Channels.{drop_more, written_over, written_on, written_same}
 use Rattle.standard.proofs.Spans.{spans}

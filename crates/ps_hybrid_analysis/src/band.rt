@@ -4,8 +4,8 @@ ghost use Rattle.planar.specs.Cells.{cell, planar, overwritten};
 ghost use Rattle.ps_hybrid_analysis.specs.Stages.{band_at};
 
 // Six slots of history.
-fn past(history: &[f64], band: &mut [f64])
-    requires { (length history.now ≡ 12) × (length band.old ≡ 88) }
+fn past(history: &[f64], band: &mut [f64; 88])
+    requires { length history.now ≡ 12 }
     ensures { band.new ≡ planar 44 (overwritten 6 (cell 6 history.now) (cell 44 band.old)) }
 {
     for j in 0..6 {
@@ -15,9 +15,9 @@ fn past(history: &[f64], band: &mut [f64])
 }
 
 // And after them the input's, `count` in all.
-fn ahead(input: &[f64], p: usize, count: usize, band: &mut [f64])
+fn ahead(input: &[f64], p: usize, count: usize, band: &mut [f64; 88])
     requires p_bound { (p < 5) × ((6 ≤ count) × (count ≤ 44)) }
-    requires count_in_bounds { (128 * (count - 6) ≤ length input.now) × (length band.old ≡ 88) }
+    requires count_in_bounds { 128 * (count - 6) ≤ length input.now }
     ensures { band.new ≡ planar 44 (overwritten count
         (overwritten 6 (cell 44 band.old) (λ j. cell 1 input.now (128 * (j - 6) + 2 * p))) (cell 44 band.old)) }
 {
@@ -29,9 +29,9 @@ fn ahead(input: &[f64], p: usize, count: usize, band: &mut [f64])
 }
 
 // The slots that a frame's filters read.
-pub fn gather(history: &[f64], input: &[f64], p: usize, slots: usize, band: &mut [f64])
+pub fn gather(history: &[f64], input: &[f64], p: usize, slots: usize, band: &mut [f64; 88])
     requires p_bound { (p < 5) × (slots ≤ 32) }
-    requires history_len { (length history.now ≡ 12) × ((128 * (slots + 6) ≤ length input.now) × (length band.old ≡ 88)) }
+    requires history_len { (length history.now ≡ 12) × (128 * (slots + 6) ≤ length input.now) }
     ensures { band.new ≡ planar 44 (overwritten (slots + 12) (band_at history.now input.now p) (cell 44 band.old)) }
 {
     past(history, band);
@@ -39,8 +39,8 @@ pub fn gather(history: &[f64], input: &[f64], p: usize, slots: usize, band: &mut
 }
 
 // The frame's last six slots become the history.
-pub fn keep(band: &[f64], slots: usize, history: &mut [f64])
-    requires { (slots ≤ 32) × ((length band.now ≡ 88) × (length history.old ≡ 12)) }
+pub fn keep(band: &[f64; 88], slots: usize, history: &mut [f64])
+    requires { (slots ≤ 32) × (length history.old ≡ 12) }
     ensures { history.new ≡ planar 6 (λ j. cell 44 band.now (slots + j)) }
 {
     for j in 0..6 {

@@ -13,8 +13,8 @@ use complex::Complex;
 use decimals::Prototype;
 
 // The unit roots of a table as floats.
-fn floats(roots: &[i64], order: usize, out: &mut [f64])
-    requires { (order ≤ 24) × (length out.old ≡ 48) }
+fn floats(roots: &[i64], order: usize, out: &mut [f64; 48])
+    requires { order ≤ 24 }
     ensures { (t : ℕ) → t < order → cell 1 out.new (2 * t) ≡ pair_at roots.now (2 * t) }
 {
     for t in 0..order {
@@ -25,8 +25,7 @@ fn floats(roots: &[i64], order: usize, out: &mut [f64])
 }
 
 // The unit roots that modulate a prototype, made once for all filters of a band.
-pub fn waves(prototype: Prototype, out: &mut [f64])
-    requires { length out.old ≡ 48 }
+pub fn waves(prototype: Prototype, out: &mut [f64; 48])
     ensures { Waves prototype out.new }
 {
     match prototype {
@@ -39,9 +38,9 @@ pub fn waves(prototype: Prototype, out: &mut [f64])
 }
 
 // Tap m of a prototype, which is g, modulated for filter q.
-fn modulated(prototype: Prototype, waves: &[f64], g: f64, q: usize, m: usize) -> Complex
+fn modulated(prototype: Prototype, waves: &[f64; 48], g: f64, q: usize, m: usize) -> Complex
     requires q_bound { (q < 12) × (m < 13) × (g ≡ get_or (prototype_of prototype) m zero) }
-    requires waves_len { (length waves.now ≡ 48) × Waves prototype waves.now }
+    requires roots { Waves prototype waves.now }
     ensures { result ≡ tap prototype q m }
 {
     let turn = plan::turn(prototype, q, m);
@@ -59,9 +58,9 @@ fn modulated(prototype: Prototype, waves: &[f64], g: f64, q: usize, m: usize) ->
 }
 
 // The 13 taps of filter q.
-pub fn taps(prototype: Prototype, waves: &[f64], g: &[f64], q: usize, out: &mut [f64])
-    requires waves_len { ((length waves.now ≡ 48) × Waves prototype waves.now) × (g.now ≡ prototype_of prototype) }
-    requires q_bound { (q < 12) × (length out.old ≡ 26) }
+pub fn taps(prototype: Prototype, waves: &[f64; 48], g: &[f64; 13], q: usize, out: &mut [f64; 26])
+    requires roots { Waves prototype waves.now × (g.now ≡ prototype_of prototype) }
+    requires q_bound { q < 12 }
     ensures { out.new ≡ planar 13 (tap prototype q) }
 {
     for m in 0..13 {
@@ -72,8 +71,8 @@ pub fn taps(prototype: Prototype, waves: &[f64], g: &[f64], q: usize, out: &mut 
 }
 
 // The taps over a band's slots, from 0 in tap order: tap m meets the slot at n + 12 - m.
-fn convolved(taps: &[f64], band: &[f64], n: usize) -> Complex
-    requires { (length taps.now ≡ 26) × ((length band.now ≡ 88) × (n < 32)) }
+fn convolved(taps: &[f64; 26], band: &[f64; 88], n: usize) -> Complex
+    requires { n < 32 }
     ensures { result ≡ added_to (λ m. product (cell 13 taps.now m) (cell 44 band.now (n + 12 - m))) 0 13 }
 {
     let mut re = 0.0;
@@ -84,16 +83,15 @@ fn convolved(taps: &[f64], band: &[f64], n: usize) -> Complex
         let b = taps[m + 13];
         let c = band[j];
         let d = band[j + 44];
-        re = re + (a * c - b * d);
-        im = im + (a * d + b * c);
+        re += a * c - b * d;
+        im += a * d + b * c;
     }
-    Complex { re: re, im: im }
+    Complex { re, im }
 }
 
 // A filter's answer, added to a hybrid channel.
-pub fn join(taps: &[f64], band: &[f64], slots: usize, run: &mut [f64])
-    requires taps_len { (length taps.now ≡ 26) × (length band.now ≡ 88) }
-    requires run_len { (length run.old ≡ 64) × (slots ≤ 32) }
+pub fn join(taps: &[f64; 26], band: &[f64; 88], slots: usize, run: &mut [f64])
+    requires { (length run.old ≡ 64) × (slots ≤ 32) }
     ensures { run.new ≡ planar 32 (overwritten slots
         (λ n. sum (cell 32 run.old n) (added_to (λ m. product (cell 13 taps.now m) (cell 44 band.now (n + 12 - m))) 0 13))
         (cell 32 run.old)) }

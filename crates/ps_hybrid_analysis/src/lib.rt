@@ -9,12 +9,12 @@ ghost use Rattle.std.specs.Prelude.{◌≡◌, ◌++◌, ℕ, suc, ◌+◌, ◌*
 ghost use Rattle.borders.specs.Borders.{slots_of};
 ghost use Rattle.complex.specs.Operations.{sum};
 ghost use Rattle.decimals.specs.Prototypes.{prototype_of};
-ghost use Rattle.layout.specs.Numbers.{split_of, unsplit_from_of};
+ghost use Rattle.layout.specs.Numbers.{split_of, unsplit_from_of, first_channel_of};
 ghost use Rattle.lists.specs.Rows.{rows};
 ghost use Rattle.planar.specs.Cells.{cell, planar, overwritten};
 ghost use Rattle.planar.specs.Frame.{sample_at};
 ghost use Rattle.standard.specs.Numbers.{nought};
-ghost use Rattle.standard.specs.Hybrid.{prototype_for, filters_of, channel_for, first_channel_of, filtered, joined_to, hybrid};
+ghost use Rattle.standard.specs.Hybrid.{prototype_for, filters_of, channel_for, filtered, joined_to, hybrid};
 ghost use Rattle.ps_hybrid_analysis.specs.Analysis.{slot_at, answer_of, history_after, samples_after};
 ghost use Rattle.ps_hybrid_analysis.specs.Stages.{Waves, band_at, Written};
 
@@ -49,16 +49,16 @@ fn apply(
     layout: Layout,
     p: usize,
     prototype: Prototype,
-    waves: &[f64],
-    g: &[f64],
+    waves: &[f64; 48],
+    g: &[f64; 13],
     q: usize,
-    band: &[f64],
+    band: &[f64; 88],
     slots: usize,
     samples: &mut [f64],
 )
     requires prototype_value { (prototype ≡ prototype_for layout p) × ((p < split_of layout) × (q < filters_of prototype)) }
-    requires waves_len { ((length waves.now ≡ 48) × Waves prototype waves.now) × (g.now ≡ prototype_of prototype) }
-    requires band_len { (length band.now ≡ 88) × ((64 * unsplit_from_of layout ≤ length samples.old) × (slots ≤ 32)) }
+    requires roots { Waves prototype waves.now × (g.now ≡ prototype_of prototype) }
+    requires room { (64 * unsplit_from_of layout ≤ length samples.old) × (slots ≤ 32) }
     ensures { Written slots (channel_for layout p q) (channel_for layout p q + 1)
         (λ k n. sum (sample_at samples.old n k) (filtered prototype q (cell 44 band.now) n))
         samples.old samples.new }
@@ -75,15 +75,15 @@ fn apply_all(
     layout: Layout,
     p: usize,
     prototype: Prototype,
-    waves: &[f64],
-    g: &[f64],
-    band: &[f64],
+    waves: &[f64; 48],
+    g: &[f64; 13],
+    band: &[f64; 88],
     slots: usize,
     samples: &mut [f64],
 )
     requires prototype_value { (prototype ≡ prototype_for layout p) × (p < split_of layout) }
-    requires waves_len { ((length waves.now ≡ 48) × Waves prototype waves.now) × (g.now ≡ prototype_of prototype) }
-    requires band_len { (length band.now ≡ 88) × ((64 * unsplit_from_of layout ≤ length samples.old) × (slots ≤ 32)) }
+    requires roots { Waves prototype waves.now × (g.now ≡ prototype_of prototype) }
+    requires room { (64 * unsplit_from_of layout ≤ length samples.old) × (slots ≤ 32) }
     requires by_index { (k n : ℕ) → first_channel_of layout p ≤ k → k < first_channel_of layout (suc p) → n < slots → sample_at samples.old n k ≡ nought }
     ensures { Written slots (first_channel_of layout p) (first_channel_of layout (suc p))
         (λ k n. joined_to layout p (cell 44 band.now) n k (filters_of prototype)) samples.old samples.new }
@@ -99,12 +99,12 @@ fn modulate(
     layout: Layout,
     p: usize,
     prototype: Prototype,
-    band: &[f64],
+    band: &[f64; 88],
     slots: usize,
     samples: &mut [f64],
 )
     requires prototype_value { (prototype ≡ prototype_for layout p) × (p < split_of layout) }
-    requires band_len { (length band.now ≡ 88) × ((64 * unsplit_from_of layout ≤ length samples.old) × (slots ≤ 32)) }
+    requires room { (64 * unsplit_from_of layout ≤ length samples.old) × (slots ≤ 32) }
     requires by_index { (k n : ℕ) → first_channel_of layout p ≤ k → k < first_channel_of layout (suc p) → n < slots → sample_at samples.old n k ≡ nought }
     ensures { Written slots (first_channel_of layout p) (first_channel_of layout (suc p))
         (λ k n. joined_to layout p (cell 44 band.now) n k (filters_of prototype)) samples.old samples.new }
@@ -116,14 +116,14 @@ fn modulate(
 }
 
 // The hybrid channels of QMF band p, from its slots.
-fn filter_band(layout: Layout, p: usize, band: &[f64], slots: usize, samples: &mut [f64])
+fn filter_band(layout: Layout, p: usize, band: &[f64; 88], slots: usize, samples: &mut [f64])
     requires p_bound { p < split_of layout }
-    requires band_len { (length band.now ≡ 88) × ((64 * unsplit_from_of layout ≤ length samples.old) × (slots ≤ 32)) }
+    requires room { (64 * unsplit_from_of layout ≤ length samples.old) × (slots ≤ 32) }
     ensures { Written slots (first_channel_of layout p) (first_channel_of layout (suc p))
         (λ k n. joined_to layout p (cell 44 band.now) n k (filters_of (prototype_for layout p))) samples.old samples.new }
 {
-    let from = plan::span(layout, p);
-    let to = plan::span(layout, p + 1);
+    let from = layout.first_channel(p);
+    let to = layout.first_channel(p + 1);
     let prototype = plan::prototype_for(layout, p);
     silence(samples, from, to, slots);
     modulate(layout, p, prototype, band, slots, samples);
@@ -187,13 +187,10 @@ pub fn analyse(
     ensures samples { samples.new ≡ samples_after layout history.old input.now samples.old (slots_of asked) }
 {
     let slots = borders::slots(asked);
-    if input.len() < 128 * (slots + 6) {
-        return Answer::Buffers;
-    }
-    if history.len() < 12 * layout.split() {
-        return Answer::Buffers;
-    }
-    if samples.len() < 64 * layout.unsplit_from() {
+    if input.len() < 128 * (slots + 6)
+        || history.len() < 12 * layout.split()
+        || samples.len() < 64 * layout.unsplit_from()
+    {
         return Answer::Buffers;
     }
     split_bands(layout, history, input, slots, samples);

@@ -1,7 +1,7 @@
 // Which filters a split QMF band has, and where they go: Tables 8.37 and 8.38, Figures 8.20 and 8.22.
 ghost use Rattle.std.specs.Prelude.{◌≡◌, ◌<◌};
 ghost use Rattle.layout.specs.Numbers.{split_of, unsplit_from_of};
-ghost use Rattle.standard.specs.Hybrid.{prototype_for, filters_of, type_a, channel_for, first_channel_of};
+ghost use Rattle.standard.specs.Hybrid.{prototype_for, filters_of, type_a, channel_for};
 ghost use Rattle.ps_hybrid_analysis.specs.Stages.{turn_of};
 
 use decimals::Prototype;
@@ -66,28 +66,6 @@ pub fn is_complex(prototype: Prototype) -> bool
     }
 }
 
-// The first hybrid channel of a split band.
-pub fn span(layout: Layout, p: usize) -> usize
-    ensures { result ≡ first_channel_of layout p }
-{
-    match layout {
-        Layout::Bands20 => match p {
-            0 => 0,
-            1 => 6,
-            2 => 8,
-            _ => 10,
-        },
-        Layout::Bands34 => match p {
-            0 => 0,
-            1 => 12,
-            2 => 20,
-            3 => 24,
-            4 => 28,
-            _ => 32,
-        },
-    }
-}
-
 // QMF band 0's filters join to six channels, band 1's are exchanged.
 fn channel_of_71(p: usize, q: usize) -> usize
     requires { q < 12 }
@@ -117,6 +95,6 @@ pub fn channel(layout: Layout, p: usize, q: usize) -> usize
 {
     match layout {
         Layout::Bands20 => channel_of_71(p, q),
-        Layout::Bands34 => span(layout, p) + q,
+        Layout::Bands34 => layout.first_channel(p) + q,
     }
 }

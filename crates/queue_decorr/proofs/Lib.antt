@@ -1,4 +1,3 @@
-pub mod Moves
 pub mod Queues
 pub mod Lines
 pub mod Numbers
@@ -9,7 +8,6 @@ pub mod Turns
 pub mod Written
 pub mod Slots
 pub mod Readied
-pub mod Copies
 pub mod Frames
 pub mod Silence
 pub mod Same

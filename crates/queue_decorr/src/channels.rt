@@ -26,7 +26,7 @@ pub fn place(layout: Layout, k: usize) -> usize
     requires { k ≤ channels_of layout }
     ensures { result ≡ place_of layout k }
 {
-    let deep = limits::least(k, layout.short_delay());
+    let deep = k.min(layout.short_delay());
     28 * deep + 2 * (k - deep)
 }
 
@@ -36,14 +36,12 @@ fn chain(numbers: &mut [f64], constants: Chain, x: Complex) -> Complex
     ensures answer { result ≡ third_output constants (chain_in numbers.old) }
     ensures numbers { numbers.new ≡ chain_numbers (channel_after constants (chain_in numbers.old) x) }
 {
-    let fractional = constants.fractional;
-    let first = constants.first;
-    let second = constants.second;
-    let third = constants.third;
-    let u = fractional.mul(queue::delay(&mut numbers[0..4], x));
-    let v = queue::link(&mut numbers[4..10], u, first);
-    let w = queue::link(&mut numbers[10..18], v, second);
-    queue::link(&mut numbers[18..28], w, third)
+    let u = constants
+        .fractional
+        .mul(queue::delay(&mut numbers[0..4], x));
+    let v = queue::link(&mut numbers[4..10], u, constants.first);
+    let w = queue::link(&mut numbers[10..18], v, constants.second);
+    queue::link(&mut numbers[18..28], w, constants.third)
 }
 
 // A slot of channel k.
@@ -81,7 +79,7 @@ fn slot(
             im: samples[2 * k + 1],
         };
         let y = channel(layout, k, table, &mut queues[at..at + width], x);
-        let b = map[k] as usize;
+        let b = usize::from(map[k]);
         let d = y.scale(gains[32 * b + n]);
         row[2 * k] = d.re;
         row[2 * k + 1] = d.im;

@@ -38,15 +38,13 @@ pub fn fresh() -> QueueDecorr
 fn switched(state: QueueDecorr, layout: Layout) -> QueueDecorr
     ensures { result ≡ switched_queues layout state }
 {
-    let old = state.layout;
-    if ps_state::same(old, layout) {
+    if state.layout == layout {
         return state;
     }
     QueueDecorr {
-        layout: layout,
+        layout,
         cued: state.cued,
-        queues: [0.0; 1794],
-        detectors: [0.0; 102],
+        ..fresh()
     }
 }
 
@@ -58,13 +56,12 @@ pub fn ready(state: QueueDecorr, layout: Layout, edge: usize, cued: bool) -> Que
     let before = switched(state, layout);
     let from = channels::place(layout, ps_state::cleared_place(layout, edge, before.cued));
     let mut queues = before.queues;
-    ps_state::silence(&mut queues[from..]);
-    let detectors = before.detectors;
+    queues[from..].fill(0.0);
     QueueDecorr {
-        layout: layout,
-        cued: cued,
-        queues: queues,
-        detectors: detectors,
+        layout,
+        cued,
+        queues,
+        ..before
     }
 }
 
@@ -72,18 +69,10 @@ pub fn ready(state: QueueDecorr, layout: Layout, edge: usize, cued: bool) -> Que
 pub fn channel_queues(state: QueueDecorr, k: usize, out: &mut [f64])
     ensures { out.new ≡ channel_queues state k out.old }
 {
-    let layout = state.layout;
-    if layout.channels() <= k {
-        return;
-    }
-    let width = channels::size(layout, k);
-    if out.len() < width {
-        return;
-    }
-    let at = channels::place(layout, k);
-    let queues = state.queues;
-    for i in 0..width {
-        out[i] = queues[at + i];
+    let width = channels::size(state.layout, k);
+    if k < state.layout.channels() && width <= out.len() {
+        let at = channels::place(state.layout, k);
+        out[..width].copy_from_slice(&state.queues[at..at + width]);
     }
 }
 
@@ -101,14 +90,26 @@ fn through(
     ensures { Slotted layout split.now input.now gains.now queues.old slots out.old queues.new out.new }
 {
     match layout {
-        Layout::Bands20 => {
-            let table = rotation_table::rotations_20();
-            channels::slots(layout, slots, &table, split, input, gains, queues, out);
-        }
-        Layout::Bands34 => {
-            let table = rotation_table::rotations_34();
-            channels::slots(layout, slots, &table, split, input, gains, queues, out);
-        }
+        Layout::Bands20 => channels::slots(
+            layout,
+            slots,
+            &rotation_table::rotations_20(),
+            split,
+            input,
+            gains,
+            queues,
+            out,
+        ),
+        Layout::Bands34 => channels::slots(
+            layout,
+            slots,
+            &rotation_table::rotations_34(),
+            split,
+            input,
+            gains,
+            queues,
+            out,
+        ),
     }
 }
 
@@ -126,14 +127,11 @@ pub fn decorrelate(
     ensures out { out.new ≡ out_after state split.now input.now out.old (min slots 32) }
 {
     let layout = state.layout;
-    let count = limits::least(slots, 32);
-    if input.len() < 128 * count {
-        return state;
-    }
-    if split.len() < 64 * layout.unsplit_from() {
-        return state;
-    }
-    if out.len() < 182 * count {
+    let count = slots.min(32);
+    if input.len() < 128 * count
+        || split.len() < 64 * layout.unsplit_from()
+        || out.len() < 182 * count
+    {
         return state;
     }
     let mut detectors = state.detectors;
@@ -142,9 +140,8 @@ pub fn decorrelate(
     let mut queues = state.queues;
     through(layout, count, split, input, &gains, &mut queues, out);
     QueueDecorr {
-        layout: layout,
-        cued: state.cued,
-        queues: queues,
-        detectors: detectors,
+        queues,
+        detectors,
+        ..state
     }
 }

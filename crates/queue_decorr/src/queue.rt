@@ -11,12 +11,8 @@ use standard::Link;
 fn push(queue: &mut [f64], x: f64)
     ensures { queue.new ≡ pushed x queue.old }
 {
-    let mut i = queue.len();
-    while 1 < i {
-        i -= 1;
-        queue[i] = queue[i - 1];
-    }
-    if 0 < queue.len() {
+    if let Some(last) = queue.len().checked_sub(1) {
+        queue.copy_within(..last, 1);
         queue[0] = x;
     }
 }
@@ -57,8 +53,7 @@ pub fn link(queue: &mut [f64], u: Complex, constants: Link) -> Complex
     ensures answer { result ≡ link_output u constants (oldest_of queue.old) }
     ensures queue { queue.new ≡ shifted (link_state u constants (oldest_of queue.old)) queue.old }
 {
-    let rotation = constants.rotation;
-    let turned = rotation.mul(oldest(queue));
+    let turned = constants.rotation.mul(oldest(queue));
     let state = u.add(turned.scale(constants.feedback));
     shift(queue, state);
     turned.sub(state.scale(constants.feedback))

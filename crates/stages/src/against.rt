@@ -1,47 +1,31 @@
 // The stages against the Rust's. The stream has for each accepted frame a head of 48 bytes, the cue line, the samples, and the Rust's numbers after
 // analysis, de-correlation, mixing and synthesis. It is said how many frames of each layout hold at each stage, and where the first difference is.
-ghost use Rattle.std.specs.Prelude.{◌≡◌, ◌*◌, ◌≤◌, length};
-ghost use Rattle.limits.specs.Limits.{digits};
+ghost use Rattle.std.specs.Prelude.{◌≤◌};
 
-use super::compare::{Compared, Verdict};
-use super::sheet::Wanted;
-use super::stream::Head;
-use super::{carried, compare, play, say, stream};
+use super::carried::Carried;
+use super::compare::{Fault, Stage};
+use super::play::{Call, INPUT};
+use super::stream::{Head, Next};
+use super::{carried, compare, play, stream};
 use layout::Layout;
 use std::io::Read;
+use std::ops::ControlFlow;
 
-// What is counted, and whether the stream goes on. The lent memory has what is carried from frame to frame.
-#[derive(Clone, Copy)]
+// What is carried from frame to frame, and what is counted: the frames of either layout that hold at each stage, all frames that hold, and the runs.
+#[derive(Drop)]
 struct Replay {
-    counts: [u64; 12],
+    carried: Carried,
+    of_20: [u64; 6],
+    of_34: [u64; 6],
     frames: u64,
     runs: u64,
-    going: bool,
-}
-
-// A frame's layout, how many stages hold, and what is said of it.
-#[derive(Clone, Copy)]
-struct Checked {
-    layout: Layout,
-    found: Compared,
-}
-
-// Nothing is compared, and nothing counted of any layout.
-fn stopped(verdict: Verdict) -> Checked {
-    Checked {
-        layout: Layout::Bands20,
-        found: Compared {
-            held: 0,
-            verdict: verdict,
-        },
-    }
 }
 
 // The slots of a frame by its outputs, and its layout by the hybrid stages.
 fn slots_of(head: Head) -> usize
     ensures { result ≤ 32 }
 {
-    limits::least(head.output / 128, 32)
+    (head.output / 128).min(32)
 }
 
 fn layout_of(head: Head, slots: usize) -> Layout
@@ -58,203 +42,99 @@ fn layout_of(head: Head, slots: usize) -> Layout
 fn lengths_fit(head: Head, layout: Layout, slots: usize) -> bool
     requires { slots ≤ 32 }
 {
-    if head.input != 128 * (slots + 6) {
-        return false;
-    }
-    if head.hybrid != 2 * layout.channels() * slots {
-        return false;
-    }
-    head.output == 128 * slots
+    head.input == 128 * (slots + 6)
+        && head.hybrid == 2 * layout.channels() * slots
+        && head.output == 128 * slots
 }
 
-// A frame whose samples are there.
-fn compare(
-    rt: &impl Print,
-    reader: &mut impl Read,
-    layout: Layout,
-    slots: usize,
-    edge: usize,
-    line: &[u8],
-    input: &[f64],
-    state: &mut [f64],
-) -> Checked
-    requires { (slots ≤ 32) × (length state.old ≡ 4325) }
-{
-    let mut numbers = [0.0; play::NUMBERS];
-    if !play::play(rt, line, edge, Wanted::Nothing, input, state, &mut numbers) {
-        return stopped(Verdict::Refused);
+impl Replay {
+    // The frame after a head. Where the line is of another layout or other slots than the stream's lengths say, the numbers differ.
+    fn check(&mut self, rt: &impl Print, reader: &mut impl Read, head: Head) -> Result<(), Fault> {
+        let mut line = [0u8; limits::DIGITS];
+        if limits::DIGITS < head.line {
+            return Err(Fault::Lengths);
+        }
+        reader.read_exact(&mut line[..head.line])?;
+        let slots = slots_of(head);
+        let layout = layout_of(head, slots);
+        if !lengths_fit(head, layout, slots) {
+            return Err(Fault::Lengths);
+        }
+        let mut input = [0.0; INPUT];
+        stream::read_rows(reader, &mut input[..128 * (slots + 6)])?;
+        let call = Call {
+            line: &line[..head.line],
+            edge: head.edge,
+            input: &input,
+            wanted: None,
+        };
+        let Some(numbers) = play::play(rt, call, &mut self.carried) else {
+            return Err(Fault::Refused);
+        };
+        let held = match layout {
+            Layout::Bands20 => &mut self.of_20,
+            Layout::Bands34 => &mut self.of_34,
+        };
+        compare::all(reader, layout, slots, &numbers, held)
     }
-    Checked {
-        layout: layout,
-        found: compare::stages(reader, layout, slots, &numbers),
-    }
-}
 
-// A frame from its samples on. Where the line is of another layout or other slots than the stream's lengths say, the numbers differ.
-fn check_frame(
-    rt: &impl Print,
-    reader: &mut impl Read,
-    head: Head,
-    line: &[u8],
-    state: &mut [f64],
-) -> Checked
-    requires { length state.old ≡ 4325 }
-{
-    let slots = slots_of(head);
-    let layout = layout_of(head, slots);
-    if !lengths_fit(head, layout, slots) {
-        return stopped(Verdict::Lengths);
+    // A frame. A run starts from a state of its own.
+    fn frame(&mut self, rt: &impl Print, reader: &mut impl Read, head: Head) -> ControlFlow<()> {
+        if head.starts {
+            self.carried.start(head.asked);
+            self.runs = self.runs.wrapping_add(1);
+        }
+        match self.check(rt, reader, head) {
+            Ok(()) => {
+                self.frames = self.frames.wrapping_add(1);
+                ControlFlow::Continue(())
+            }
+            Err(fault) => {
+                let _ = println!(rt; "{head}{fault}");
+                ControlFlow::Break(())
+            }
+        }
     }
-    let mut input = [0.0; 4864];
-    if !stream::read_rows(reader, slots + 6, &mut input) {
-        return stopped(Verdict::Cut);
-    }
-    compare(rt, reader, layout, slots, head.edge, line, &input, state)
-}
 
-fn check_line(
-    rt: &impl Print,
-    reader: &mut impl Read,
-    head: Head,
-    line: &mut [u8],
-    state: &mut [f64],
-) -> Checked
-    requires { (length line.old ≡ digits) × (length state.old ≡ 4325) }
-{
-    let size = head.line;
-    if limits::DIGITS < size {
-        return stopped(Verdict::Lengths);
+    fn next(&mut self, rt: &impl Print, reader: &mut impl Read) -> ControlFlow<()> {
+        match stream::next(reader) {
+            Next::Frame(head) => self.frame(rt, reader, head),
+            Next::End => {
+                let frames = self.frames;
+                let runs = self.runs;
+                let _ = println!(rt; "held: {frames} frames in {runs} runs, every channel at each stage and both sides, bit for bit");
+                ControlFlow::Break(())
+            }
+            Next::Broken(head) => {
+                let _ = println!(rt; "{head}: the stream ends before its end is said");
+                ControlFlow::Break(())
+            }
+        }
     }
-    if !stream::read_first(reader, line, size) {
-        return stopped(Verdict::Cut);
-    }
-    check_frame(rt, reader, head, &line[..size], state)
-}
 
-// The frame after a head.
-fn check(rt: &impl Print, reader: &mut impl Read, head: Head, state: &mut [f64]) -> Checked
-    requires { length state.old ≡ 4325 }
-{
-    let mut line = [0u8; limits::DIGITS];
-    check_line(rt, reader, head, &mut line, state)
-}
-
-// The counts of 20 bands stand before those of 34.
-fn first_count(layout: Layout) -> usize
-    ensures { result ≤ 6 }
-{
-    match layout {
-        Layout::Bands20 => 0,
-        Layout::Bands34 => 6,
+    // The frames of each layout that hold at each stage.
+    fn say_counts(&self, rt: &impl Print) {
+        let _ = println!(rt; "frames as the Rust has them");
+        for (stage, (of_20, of_34)) in Stage::ALL.iter().zip(self.of_20.iter().zip(&self.of_34)) {
+            let _ = println!(rt; "{stage}: {of_20} of 20 bands, {of_34} of 34");
+        }
     }
-}
-
-fn one_more(count: u64, held: bool) -> u64 {
-    if held {
-        std::num::wrapping_add_u64(count, 1)
-    } else {
-        count
-    }
-}
-
-// One more frame at each of the stages that hold.
-fn counted(counts: [u64; 12], layout: Layout, held: usize) -> [u64; 12] {
-    let first = first_count(layout);
-    let mut out = counts;
-    for stage in 0..6 {
-        let place = first + stage;
-        out[place] = one_more(out[place], stage < held);
-    }
-    out
-}
-
-// A run starts from a state of its own.
-fn started(before: Replay, head: Head, state: &mut [f64]) -> Replay
-    requires { length state.old ≡ 4325 }
-{
-    if head.starts == 0 {
-        return before;
-    }
-    let mut after = before;
-    carried::start(head.asked, state);
-    after.runs = std::num::wrapping_add_u64(before.runs, 1);
-    after
-}
-
-// What is said of a frame that does not hold.
-fn say_verdict(rt: &impl Print, head: Head, checked: Verdict, held: usize) {
-    match checked {
-        Verdict::Same => {}
-        Verdict::Cut => say::broken(rt, head, b"the stream ends in this frame"),
-        Verdict::Lengths => say::broken(
-            rt,
-            head,
-            b"the lengths are not those of its layout and slots",
-        ),
-        Verdict::Refused => say::broken(rt, head, b"its cue line is refused"),
-        Verdict::Differs(d) => say::difference(rt, head, held, d),
-    }
-}
-
-fn play_on(
-    rt: &impl Print,
-    reader: &mut impl Read,
-    before: Replay,
-    head: Head,
-    state: &mut [f64],
-) -> Replay
-    requires { length state.old ≡ 4325 }
-{
-    let mut replay = started(before, head, state);
-    let checked = check(rt, reader, head, state);
-    let layout = checked.layout;
-    let found = checked.found;
-    let verdict = found.verdict;
-    let old = replay.counts;
-    let counts = counted(old, layout, found.held);
-    replay.counts = counts;
-    if let Verdict::Same = verdict {
-        replay.frames = std::num::wrapping_add_u64(replay.frames, 1);
-        return replay;
-    }
-    say_verdict(rt, head, verdict, found.held);
-    replay.going = false;
-    replay
-}
-
-fn next(rt: &impl Print, reader: &mut impl Read, before: Replay, state: &mut [f64]) -> Replay
-    requires { length state.old ≡ 4325 }
-{
-    let head = stream::next_head(reader);
-    if head.kind == 1 {
-        return play_on(rt, reader, before, head, state);
-    }
-    let mut after = before;
-    after.going = false;
-    if head.kind == 0 {
-        say::end(rt, after.frames, after.runs);
-    } else {
-        say::broken(rt, head, b"the stream ends before its end is said");
-    }
-    after
 }
 
 // The whole stream.
 pub fn all(rt: &impl Print, reader: &mut impl Read) {
-    let mut state = [0.0; carried::STATE];
     let mut replay = Replay {
-        counts: [0u64; 12],
+        carried: carried::none(),
+        of_20: [0; 6],
+        of_34: [0; 6],
         frames: 0,
         runs: 0,
-        going: true,
     };
     // A proved loop has to end: no input uses up these turns.
     for _ in 0..u64::MAX {
-        replay = next(rt, reader, replay, &mut state);
-        if !replay.going {
+        if replay.next(rt, reader).is_break() {
             break;
         }
     }
-    let counts = replay.counts;
-    say::counts(rt, counts);
+    replay.say_counts(rt);
 }

@@ -1,21 +1,25 @@
 // A frame through the decoder and, where it is accepted, through the queues: both sides are compared number by number, by their bits.
-ghost use Rattle.std.specs.Prelude.{◌≡◌, ◌≤◌, length};
-
-use super::sheet::Wanted;
+use super::carried::Carried;
+use super::play::Call;
 use super::{carried, play};
 
-// The last answer, and what was compared so far. The lent memories of the decoder and of the queues have the rest.
-#[derive(Clone, Copy)]
+// The decoder's memory and the queues', the last answer, and what was compared so far.
+#[derive(Drop)]
 pub struct Both {
+    memory: [f64; lefasumu::MEMORY],
+    carried: Carried,
     pub answer: u32,
     // Accepted frames, numbers that were compared, and those that differ.
-    pub frames: u64,
-    pub compared: u64,
-    pub differing: u64,
+    frames: u64,
+    compared: u64,
+    differing: u64,
 }
 
+// Before any start.
 pub fn none() -> Both {
     Both {
+        memory: [0.0; lefasumu::MEMORY],
+        carried: carried::none(),
         answer: 0,
         frames: 0,
         compared: 0,
@@ -23,105 +27,70 @@ pub fn none() -> Both {
     }
 }
 
-// Both from fresh, the counts as they were.
-pub fn started(before: Both, asked: usize, memory: &mut [f64], state: &mut [f64]) -> Both
-    requires { length state.old ≡ 4325 }
-{
-    let mut after = before;
-    after.answer = lefasumu::lefasumu_start(memory, asked);
-    carried::start(asked, state);
-    after
-}
-
 // How many numbers differ in a bit; all of them where there are not as many.
 fn differing(ours: &[f64], theirs: &[f64]) -> u64 {
     if ours.len() != theirs.len() {
         return theirs.len() as u64;
     }
-    let mut sum = 0;
-    for i in 0..ours.len() {
-        if float_bytes::bits_of(ours[i]) != float_bytes::bits_of(theirs[i]) {
-            sum = std::num::wrapping_add_u64(sum, 1);
+    let differing = ours
+        .iter()
+        .zip(theirs)
+        .filter(|(ours, theirs)| float_bytes::bits_of(**ours) != float_bytes::bits_of(**theirs))
+        .count();
+    differing as u64
+}
+
+impl Both {
+    // Both from fresh, the counts as they were.
+    pub fn start(&mut self, asked: usize) {
+        self.answer = lefasumu::lefasumu_start(&mut self.memory, asked);
+        self.carried.start(asked);
+    }
+
+    // The first numbers of a side, with as many as the decoder wrote.
+    fn compare(&mut self, side: &[f64; play::SIDE], written: &[f64]) {
+        let count = written.len().min(play::SIDE);
+        self.compared = self.compared.wrapping_add(written.len() as u64);
+        self.differing = self
+            .differing
+            .wrapping_add(differing(&side[..count], written));
+    }
+
+    // The queues' frame after an accepted one of the decoder's.
+    fn beside(&mut self, rt: &impl Print, call: Call, left: &[f64], right: &[f64]) {
+        let Some(stages) = play::play(rt, call, &mut self.carried) else {
+            // The decoder has read it.
+            self.differing = self.differing.wrapping_add(1);
+            return;
+        };
+        self.frames = self.frames.wrapping_add(1);
+        self.compare(&stages.left, left);
+        self.compare(&stages.right, right);
+    }
+
+    // A call.
+    pub fn frame(&mut self, rt: &impl Print, call: Call, left: &mut [f64], right: &mut [f64]) {
+        self.answer = lefasumu::lefasumu_frame(
+            &mut self.memory,
+            call.line,
+            call.input,
+            call.edge,
+            left,
+            right,
+        );
+        if self.answer == 0 {
+            self.beside(rt, call, left, right);
         }
     }
-    sum
-}
 
-// The first numbers of a side, with as many as the decoder wrote.
-fn compared(before: Both, side: &[f64], written: &[f64]) -> Both
-    requires { length side.now ≡ 4096 }
-{
-    let count = limits::least(written.len(), 4096);
-    let mut after = before;
-    after.compared = std::num::wrapping_add_u64(before.compared, written.len() as u64);
-    after.differing = std::num::wrapping_add_u64(
-        before.differing,
-        differing(&side[..count], written),
-    );
-    after
-}
-
-// The queues' frame after an accepted one of the decoder's.
-fn beside(
-    rt: &impl Print,
-    before: Both,
-    line: &[u8],
-    input: &[f64],
-    edge: usize,
-    wanted: Wanted,
-    state: &mut [f64],
-    left: &[f64],
-    right: &[f64],
-) -> Both
-    requires { length state.old ≡ 4325 }
-{
-    let mut after = before;
-    let mut numbers = [0.0; play::NUMBERS];
-    if !play::play(rt, line, edge, wanted, input, state, &mut numbers) {
-        // The decoder has read it.
-        after.differing = std::num::wrapping_add_u64(before.differing, 1);
-        return after;
-    }
-    after.frames = std::num::wrapping_add_u64(before.frames, 1);
-    after = compared(after, &numbers[play::LEFT..play::RIGHT], left);
-    compared(after, &numbers[play::RIGHT..play::NUMBERS], right)
-}
-
-// A call.
-pub fn frame(
-    rt: &impl Print,
-    before: Both,
-    line: &[u8],
-    input: &[f64],
-    edge: usize,
-    wanted: Wanted,
-    memory: &mut [f64],
-    state: &mut [f64],
-    left: &mut [f64],
-    right: &mut [f64],
-) -> Both
-    requires { length state.old ≡ 4325 }
-{
-    let answer = lefasumu::lefasumu_frame(memory, line, input, edge, left, right);
-    let mut after = before;
-    after.answer = answer;
-    if answer != 0 {
-        return after;
-    }
-    beside(rt, after, line, input, edge, wanted, state, left, right)
-}
-
-// The last line, of all that was compared.
-pub fn conclude(rt: &impl Print, all: Both) {
-    let _ = rt.write_all(b"queues: ");
-    let _ = rt.print(all.frames);
-    let _ = rt.write_all(b" frames, ");
-    let _ = rt.print(all.compared);
-    let _ = rt.write_all(b" numbers of left and right compared with the decoder's: ");
-    if all.differing == 0 {
-        let _ = rt.write_all(b"all equal, bit for bit\n");
-    } else {
-        let _ = rt.print(all.differing);
-        let _ = rt.write_all(b" differ\n");
+    // The last line, of all that was compared.
+    pub fn conclude(&self, rt: &impl Print) {
+        let frames = self.frames;
+        let compared = self.compared;
+        let _ = print!(rt; "queues: {frames} frames, {compared} numbers of left and right compared with the decoder's: ");
+        let _ = match self.differing {
+            0 => println!(rt; "all equal, bit for bit"),
+            differing => println!(rt; "{differing} differ"),
+        };
     }
 }

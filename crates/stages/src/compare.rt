@@ -1,22 +1,80 @@
 // A stage's numbers against those of the stream, by their bits.
-ghost use Rattle.std.specs.Prelude.{◌≡◌, ◌+◌, ◌*◌, ◌<◌, ◌≤◌, length};
+ghost use Rattle.std.specs.Prelude.{◌*◌, ◌≤◌, length};
 
-use super::{play, stream};
+use super::play::{ROW, Stages};
 use layout::Layout;
+use std::fmt;
+use std::io;
 use std::io::Read;
 
-// The first number of a slot that differs: its place, the Rust's bits and ours.
-#[derive(Clone, Copy)]
-pub struct Difference {
-    pub slot: usize,
-    pub place: usize,
-    pub wanted: u64,
-    pub found: u64,
+#[derive(Clone, Copy, Debug, PartialEq, Eq)]
+pub enum Stage {
+    Analysis,
+    Decorrelation,
+    MixingLeft,
+    MixingRight,
+    SynthesisLeft,
+    SynthesisRight,
 }
 
-#[derive(Clone, Copy)]
-pub enum Verdict {
-    Same,
+impl Stage {
+    // In the stream's order.
+    pub const ALL: [Stage; 6] = [
+        Stage::Analysis,
+        Stage::Decorrelation,
+        Stage::MixingLeft,
+        Stage::MixingRight,
+        Stage::SynthesisLeft,
+        Stage::SynthesisRight,
+    ];
+}
+
+impl fmt::Display for Stage {
+    fn fmt<W: fmt::Write>(&self, f: &mut fmt::Formatter<W>) -> fmt::Result {
+        f.write_str(match self {
+            Stage::Analysis => "analysis",
+            Stage::Decorrelation => "de-correlation",
+            Stage::MixingLeft => "mixing, left",
+            Stage::MixingRight => "mixing, right",
+            Stage::SynthesisLeft => "synthesis, left",
+            Stage::SynthesisRight => "synthesis, right",
+        })
+    }
+}
+
+// The first number of a slot that differs: its place, the Rust's bits and ours.
+#[derive(Clone, Copy, Debug, PartialEq, Eq)]
+pub struct Difference {
+    stage: Stage,
+    slot: usize,
+    place: usize,
+    wanted: u64,
+    found: u64,
+}
+
+// A place among the numbers of a slot is re or im of a channel, or of a QMF band after synthesis.
+impl fmt::Display for Difference {
+    fn fmt<W: fmt::Write>(&self, f: &mut fmt::Formatter<W>) -> fmt::Result {
+        let kind = match self.stage {
+            Stage::SynthesisLeft | Stage::SynthesisRight => "band",
+            _ => "channel",
+        };
+        let part = if self.place % 2 == 0 { "re" } else { "im" };
+        let stage = self.stage;
+        let slot = self.slot;
+        let number = self.place / 2;
+        let wanted = self.wanted;
+        let found = self.found;
+        write!(
+            f,
+            "{stage}: slot {slot} {kind} {number} {part}: the Rust {wanted:016x}, Lefasumu {found:016x}"
+        )
+    }
+}
+
+// Why a frame does not hold.
+#[derive(Clone, Copy, Debug, PartialEq, Eq)]
+pub enum Fault {
     // The stream ends before the frame does.
     Cut,
     // Its lengths are not those of the frame's layout and slots.
@@ -26,125 +84,98 @@ pub enum Verdict {
     Differs(Difference),
 }
 
-// How many stages hold, in their order, and what is said of the next one.
-#[derive(Clone, Copy)]
-pub struct Compared {
-    pub held: usize,
-    pub verdict: Verdict,
+impl From<io::Error> for Fault {
+    fn from(_error: io::Error) -> Fault {
+        Fault::Cut
+    }
 }
 
-// The place of the first number whose bits are not those of its eight bytes, or the count of them.
-fn first_difference(bytes: &[u8], numbers: &[f64], count: usize) -> usize
-    requires { (8 * count ≤ length bytes.now) × ((count ≤ 182) × (count ≤ length numbers.now)) }
-    ensures { result ≤ count }
-{
-    let mut i = 0;
-    while i < count {
-        if float_bytes::bits_of(numbers[i]) != float_bytes::word_at(bytes, 8 * i) {
-            return i;
+// As it goes on behind the frame's place.
+impl fmt::Display for Fault {
+    fn fmt<W: fmt::Write>(&self, f: &mut fmt::Formatter<W>) -> fmt::Result {
+        match self {
+            Fault::Cut => f.write_str(": the stream ends in this frame"),
+            Fault::Lengths => f.write_str(": the lengths are not those of its layout and slots"),
+            Fault::Refused => f.write_str(": its cue line is refused"),
+            Fault::Differs(difference) => write!(f, ", {difference}"),
         }
-        i += 1;
     }
-    i
 }
 
-fn slot_in(
-    reader: &mut impl Read,
-    n: usize,
-    numbers: &[f64],
-    count: usize,
-    bytes: &mut [u8],
-) -> Verdict
-    requires { (count ≤ 182) × ((count ≤ length numbers.now) × (length bytes.old ≡ 1456)) }
+// Slot n of a stage, in the stream's order.
+fn slot(reader: &mut impl Read, stage: Stage, n: usize, numbers: &[f64]) -> Result<(), Fault>
+    requires { length numbers.now ≤ 182 }
 {
-    if !stream::read_first(reader, bytes, 8 * count) {
-        return Verdict::Cut;
+    let mut bytes = [0u8; 8 * ROW];
+    reader.read_exact(&mut bytes[..8 * numbers.len()])?;
+    for (place, number) in numbers.iter().enumerate() {
+        let wanted = float_bytes::word_at(&bytes, 8 * place);
+        let found = float_bytes::bits_of(*number);
+        if found != wanted {
+            return Err(Fault::Differs(Difference {
+                stage,
+                slot: n,
+                place,
+                wanted,
+                found,
+            }));
+        }
     }
-    let place = first_difference(bytes, numbers, count);
-    if place < count {
-        return Verdict::Differs(Difference {
-            slot: n,
-            place: place,
-            wanted: float_bytes::word_at(bytes, 8 * place),
-            found: float_bytes::bits_of(numbers[place]),
-        });
-    }
-    Verdict::Same
+    Ok(())
 }
 
-// The first `count` numbers of a slot, in the stream's order.
-fn slot(reader: &mut impl Read, n: usize, numbers: &[f64], count: usize) -> Verdict
-    requires { (count ≤ 182) × (count ≤ length numbers.now) }
-{
-    let mut bytes = [0u8; 1456];
-    slot_in(reader, n, numbers, count, &mut bytes)
-}
-
-// The first `count` numbers of each row, from a place on.
+// The first `count` numbers of each row.
 fn rows(
     reader: &mut impl Read,
+    stage: Stage,
     numbers: &[f64],
-    from: usize,
     row: usize,
     count: usize,
     slots: usize,
-) -> Verdict
-    requires { (count ≤ row) × ((row ≤ 182) × ((slots ≤ 32) × (from + 32 * row ≤ length numbers.now))) }
+) -> Result<(), Fault>
+    requires { (count ≤ row) × ((row ≤ 182) × ((slots ≤ 32) × (32 * row ≤ length numbers.now))) }
 {
     for n in 0..slots {
-        let at = from + row * n;
-        let found = slot(reader, n, &numbers[at..at + row], count);
-        let Verdict::Same = found else {
-            return found;
-        };
+        let at = row * n;
+        slot(reader, stage, n, &numbers[at..at + count])?;
     }
-    Verdict::Same
+    Ok(())
 }
 
-// A stage by its number: channel by channel re and im, as the Rust has a slot, or QMF rows.
-fn stage(
+// A stage: channel by channel re and im, as the Rust has a slot, or QMF rows.
+fn one(
     reader: &mut impl Read,
-    number: usize,
-    channels: usize,
+    stage: Stage,
+    layout: Layout,
     slots: usize,
-    numbers: &[f64],
-) -> Verdict
-    requires { (channels ≤ 91) × ((slots ≤ 32) × (length numbers.now ≡ 31488)) }
+    numbers: &Stages,
+) -> Result<(), Fault>
+    requires { slots ≤ 32 }
 {
-    let hybrid = 2 * channels;
-    match number {
-        0 => rows(reader, numbers, play::SAMPLES, play::ROW, hybrid, slots),
-        1 => rows(
-            reader,
-            numbers,
-            play::DECORRELATED,
-            play::ROW,
-            hybrid,
-            slots,
-        ),
-        2 => rows(reader, numbers, play::LEFTS, play::ROW, hybrid, slots),
-        3 => rows(reader, numbers, play::RIGHTS, play::ROW, hybrid, slots),
-        4 => rows(reader, numbers, play::LEFT, 128, 128, slots),
-        _ => rows(reader, numbers, play::RIGHT, 128, 128, slots),
+    let hybrid = 2 * layout.channels();
+    match stage {
+        Stage::Analysis => rows(reader, stage, &numbers.samples, ROW, hybrid, slots),
+        Stage::Decorrelation => rows(reader, stage, &numbers.decorrelated, ROW, hybrid, slots),
+        Stage::MixingLeft => rows(reader, stage, &numbers.lefts, ROW, hybrid, slots),
+        Stage::MixingRight => rows(reader, stage, &numbers.rights, ROW, hybrid, slots),
+        Stage::SynthesisLeft => rows(reader, stage, &numbers.left, 128, 128, slots),
+        Stage::SynthesisRight => rows(reader, stage, &numbers.right, 128, 128, slots),
     }
 }
 
-// The stages in the stream's order.
-pub fn stages(reader: &mut impl Read, layout: Layout, slots: usize, numbers: &[f64]) -> Compared
-    requires { (slots ≤ 32) × (length numbers.now ≡ 31488) }
+// The stages in the stream's order, each counted that holds.
+pub fn all(
+    reader: &mut impl Read,
+    layout: Layout,
+    slots: usize,
+    numbers: &Stages,
+    held: &mut [u64; 6],
+) -> Result<(), Fault>
+    requires { slots ≤ 32 }
 {
-    let channels = layout.channels();
-    for number in 0..6 {
-        let found = stage(reader, number, channels, slots, numbers);
-        let Verdict::Same = found else {
-            return Compared {
-                held: number,
-                verdict: found,
-            };
-        };
+    for (stage, count) in Stage::ALL.iter().zip(held.iter_mut()) {
+        one(reader, *stage, layout, slots, numbers)?;
+        *count = count.wrapping_add(1);
     }
-    Compared {
-        held: 6,
-        verdict: Verdict::Same,
-    }
+    Ok(())
 }

@@ -1,9 +1,9 @@
 // A programme through the decoder and through the queues, side by side.
-ghost use Rattle.std.specs.Prelude.{◌≡◌, ◌≤◌, length};
+ghost use Rattle.std.specs.Prelude.{◌≤◌};
 
+use super::both;
 use super::both::Both;
-use super::sheet::Wanted;
-use super::{both, carried};
+use super::play::{Call, INPUT, SIDE};
 use programme::arguments::Number;
 use programme::{arguments, files, rows};
 use std::env::Env;
@@ -19,194 +19,119 @@ struct Streams {
     samples: File,
 }
 
-// What is carried from line to line, beside the files and the lent memory.
-#[derive(Clone, Copy)]
+// What is carried from line to line, beside the files.
+#[derive(Drop)]
 struct Run {
     asked: usize,
     edge: usize,
-    wanted: Wanted,
+    wanted: Option<usize>,
     both: Both,
+    // The rows of the next frame that are there, and behind them room for the rest.
+    input: [f64; INPUT],
+    ahead: usize,
     // The lines so far.
     number: u64,
-    // How many characters the line that has begun has had, and how many of the next frame's rows are there.
+    // How many characters the line that has begun has had.
     count: u64,
-    ahead: usize,
     // A file failed or the samples ended: no more is played.
     failed: bool,
-}
-
-fn say(rt: &impl Print, text: &[u8]) {
-    let _ = rt.write_all(text);
-}
-
-fn say_number(rt: &impl Print, text: &[u8], number: u64) {
-    say(rt, text);
-    let _ = rt.print(number);
 }
 
 fn complain(rt: &impl Eprint, text: &str) {
     let _ = eprintln!(rt; "lefasumu: {text}");
 }
 
-// A frame whose rows are there.
-fn frame(
-    rt: &impl Print,
-    before: Run,
-    line: &[u8],
-    input: &mut [f64],
-    slots: usize,
-    memory: &mut [f64],
-    state: &mut [f64],
-) -> Run
-    requires { (slots ≤ 32) × ((length input.old ≡ 4864) × (length state.old ≡ 4325)) }
-{
-    let mut left = [0.0; 4096];
-    let mut right = [0.0; 4096];
-    let count = 128 * slots;
-    say_number(rt, b"frame ", before.number);
-    say(rt, b"\n");
-    let now = before.both;
-    let wanted = before.wanted;
-    let mut after = before;
-    let played = both::frame(
-        rt,
-        now,
-        line,
-        &input[..count + 768],
-        before.edge,
-        wanted,
-        memory,
-        state,
-        &mut left[..count],
-        &mut right[..count],
-    );
-    if played.answer != 0 {
-        say_number(rt, b" answer ", played.answer as u64);
-        say(rt, b": nothing moves\n");
+impl Run {
+    // A frame whose rows are there.
+    fn frame(&mut self, rt: &impl Print, line: &[u8], slots: usize)
+        requires { slots ≤ 32 }
+    {
+        let mut left = [0.0; SIDE];
+        let mut right = [0.0; SIDE];
+        let number = self.number;
+        let _ = println!(rt; "frame {number}");
+        let count = 128 * slots;
+        let call = Call {
+            line,
+            edge: self.edge,
+            input: &self.input[..count + 768],
+            wanted: self.wanted,
+        };
+        self.both
+            .frame(rt, call, &mut left[..count], &mut right[..count]);
+        let answer = self.both.answer;
+        if answer != 0 {
+            let _ = println!(rt; " answer {answer}: nothing moves");
+        }
+        rows::carry(&mut self.input, slots);
     }
-    after.both = played;
-    rows::carry(input, slots);
-    after
-}
 
-// ---- lines
-
-fn play_line(
-    rt: &(impl Env + Print + Eprint),
-    streams: &Streams,
-    before: Run,
-    line: &[u8],
-    input: &mut [f64],
-    memory: &mut [f64],
-    state: &mut [f64],
-) -> Run
-    requires { (length input.old ≡ 4864) × (length state.old ≡ 4325) }
-{
-    let mut run = before;
-    run.count = 0;
-    if run.failed {
-        return run;
+    fn play_line(&mut self, rt: &(impl Env + Print + Eprint), streams: &Streams, line: &[u8]) {
+        self.count = 0;
+        if self.failed {
+            return;
+        }
+        self.number = self.number.wrapping_add(1);
+        let slots = borders::slots(self.asked);
+        let ahead = self.ahead.min(6);
+        let got = rows::fetch(rt, &streams.samples, slots, ahead, &mut self.input);
+        if got.failed {
+            self.failed = true;
+            return;
+        }
+        let there = ahead + got.rows;
+        if there < slots {
+            complain(rt, "the samples are too short for the lines");
+            self.failed = true;
+            return;
+        }
+        self.ahead = there - slots;
+        self.frame(rt, line, slots);
     }
-    run.number = std::num::wrapping_add_u64(before.number, 1);
-    let slots = borders::slots(run.asked);
-    let ahead = limits::least(run.ahead, 6);
-    let got = rows::fetch(rt, &streams.samples, slots, ahead, input);
-    if got.failed {
-        run.failed = true;
-        return run;
-    }
-    let there = ahead + got.rows;
-    if there < slots {
-        complain(rt, "the samples are too short for the lines");
-        run.failed = true;
-        return run;
-    }
-    run.ahead = there - slots;
-    frame(rt, run, line, input, slots, memory, state)
-}
 
-// The line that has begun is complete.
-fn end_line(
-    rt: &(impl Env + Print + Eprint),
-    streams: &Streams,
-    before: Run,
-    line: &[u8],
-    input: &mut [f64],
-    memory: &mut [f64],
-    state: &mut [f64],
-) -> Run
-    requires { (length input.old ≡ 4864) × (length state.old ≡ 4325) }
-{
-    play_line(
-        rt,
-        streams,
-        before,
-        text_lines::held(line, before.count),
-        input,
-        memory,
-        state,
-    )
-}
+    // The line that has begun is complete.
+    fn end_line(&mut self, rt: &(impl Env + Print + Eprint), streams: &Streams, line: &[u8]) {
+        self.play_line(rt, streams, text_lines::held(line, self.count));
+    }
 
-// A piece of the file of lines: the lines that end in it, and the beginning of the next.
-fn play_piece(
-    rt: &(impl Env + Print + Eprint),
-    streams: &Streams,
-    before: Run,
-    line: &mut [u8],
-    piece: &[u8],
-    input: &mut [f64],
-    memory: &mut [f64],
-    state: &mut [f64],
-) -> Run
-    requires { (length input.old ≡ 4864) × (length state.old ≡ 4325) }
-{
-    let mut run = before;
-    let mut from = 0;
-    while from < piece.len() {
-        let step = text_lines::step(line, run.count, piece, from);
-        from = step.next;
-        run.count = step.count;
-        if step.ended {
-            run = end_line(rt, streams, run, line, input, memory, state);
+    // A piece of the file of lines: the lines that end in it, and the beginning of the next.
+    fn play_piece(
+        &mut self,
+        rt: &(impl Env + Print + Eprint),
+        streams: &Streams,
+        line: &mut [u8],
+        piece: &[u8],
+    ) {
+        let mut from = 0;
+        while from < piece.len() {
+            let step = text_lines::step(line, self.count, piece, from);
+            from = step.next;
+            self.count = step.count;
+            if step.ended {
+                self.end_line(rt, streams, line);
+            }
         }
     }
-    run
-}
 
-fn play_all(rt: &(impl Env + Print + Eprint), streams: &Streams, before: Run) -> Run {
-    // A line of more characters than the longest has is refused whatever they are, so one more than that is all that is held of it.
-    let mut line = [0u8; limits::DIGITS + 1];
-    let mut memory = [0.0; lefasumu::MEMORY];
-    let mut state = [0.0; carried::STATE];
-    let mut input = [0.0; 4864];
-    let mut piece = [0u8; 65536];
-    let mut run = before;
-    let none = run.both;
-    run.both = both::started(none, run.asked, &mut memory, &mut state);
-    // A proved loop has to end: no file uses up these turns.
-    for _ in 0..u64::MAX {
-        let got = files::read_some(rt, files::LINES, &streams.lines, &mut piece);
-        let used = got.count;
-        if used == 0 {
-            run.failed = run.failed | got.failed;
-            break;
+    fn play_all(&mut self, rt: &(impl Env + Print + Eprint), streams: &Streams) {
+        // A line of more characters than the longest has is refused whatever they are, so one more than that is all that is held of it.
+        let mut line = [0u8; limits::DIGITS + 1];
+        let mut piece = [0u8; 65536];
+        self.both.start(self.asked);
+        // A proved loop has to end: no file uses up these turns.
+        for _ in 0..u64::MAX {
+            let got = files::read_some(rt, files::LINES, &streams.lines, &mut piece);
+            let used = got.count;
+            if used == 0 {
+                self.failed = self.failed | got.failed;
+                break;
+            }
+            self.play_piece(rt, streams, &mut line, &piece[..used]);
         }
-        run = play_piece(
-            rt,
-            streams,
-            run,
-            &mut line,
-            &piece[..used],
-            &mut input,
-            &mut memory,
-            &mut state,
-        );
+        if 0 < self.count {
+            self.end_line(rt, streams, &line);
+        }
     }
-    if 0 < run.count {
-        run = end_line(rt, streams, run, &line, &mut input, &mut memory, &mut state);
-    }
-    run
 }
 
 // ---- the program
@@ -215,7 +140,7 @@ fn open<R: Files<File = File> + Env + Print + Eprint>(
     rt: &R,
     asked: usize,
     edge: usize,
-    wanted: Wanted,
+    wanted: Option<usize>,
 ) {
     let Some(lines) = files::open_to_read(rt, files::LINES) else {
         return;
@@ -223,23 +148,21 @@ fn open<R: Files<File = File> + Env + Print + Eprint>(
     let Some(samples) = files::open_to_read(rt, files::SAMPLES) else {
         return;
     };
-    let streams = Streams {
-        lines: lines,
-        samples: samples,
-    };
-    let start = Run {
-        asked: asked,
-        edge: edge,
-        wanted: wanted,
+    let streams = Streams { lines, samples };
+    let mut run = Run {
+        asked,
+        edge,
+        wanted,
         both: both::none(),
+        input: [0.0; INPUT],
+        ahead: 0,
         number: 0,
         count: 0,
-        ahead: 0,
         failed: false,
     };
-    let run = play_all(rt, &streams, start);
+    run.play_all(rt, &streams);
     if !run.failed {
-        both::conclude(rt, run.both);
+        run.both.conclude(rt);
     }
 }
 
@@ -253,7 +176,7 @@ fn with_channel<R: Files<File = File> + Env + Print + Eprint>(rt: &R, asked: usi
     match channel {
         Number::Given(k) => {
             if k < 91 {
-                open(rt, asked, edge, Wanted::Channel(k));
+                open(rt, asked, edge, Some(k));
             } else {
                 complain(
                     rt,
@@ -281,7 +204,7 @@ pub fn all<R: Files<File = File> + Env + Print + Eprint>(rt: &R) {
         return;
     }
     match arguments::count(rt) {
-        5 => open(rt, slots, bands, Wanted::Nothing),
+        5 => open(rt, slots, bands, None),
         6 => with_channel(rt, slots, bands),
         _ => misused(rt),
     }

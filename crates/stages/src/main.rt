@@ -13,7 +13,6 @@ mod decimal;
 mod lines;
 mod play;
 mod runs;
-mod say;
 mod sheet;
 mod stream;
 

@@ -1,20 +1,18 @@
 // What `oracle stage-runs` writes, read piece by piece.
-ghost use Rattle.std.specs.Prelude.{◌≡◌, ◌*◌, ◌≤◌, length};
-
+use std::fmt;
+use std::io;
 use std::io::Read;
 
 // What stands before a frame.
 #[derive(Clone, Copy)]
 pub struct Head {
-    // 1 before a frame, 0 at the end.
-    pub kind: u8,
-    // 1 before the first accepted frame of a run.
-    pub starts: u8,
+    // Whether it is the first accepted frame of a run.
+    pub starts: bool,
     // Characters of the cue line.
     pub line: usize,
     // The frame's place in its run, and the run's seed.
-    pub number: u64,
-    pub seed: u64,
+    number: u64,
+    seed: u64,
     pub asked: usize,
     pub edge: usize,
     // How many numbers follow of the input, after each hybrid stage, and of each output.
@@ -23,25 +21,32 @@ pub struct Head {
     pub output: usize,
 }
 
-// Whether the stream has as many bytes more as are lent.
-pub fn read(reader: &mut impl Read, bytes: &mut [u8]) -> bool {
-    reader.read_exact(bytes).is_ok()
+// Where a frame stands.
+impl fmt::Display for Head {
+    fn fmt<W: fmt::Write>(&self, f: &mut fmt::Formatter<W>) -> fmt::Result {
+        let seed = self.seed;
+        let number = self.number;
+        write!(f, "run seed {seed} frame {number}")
+    }
 }
 
-pub fn read_first(reader: &mut impl Read, bytes: &mut [u8], count: usize) -> bool
-    requires { count ≤ length bytes.old }
-{
-    read(reader, &mut bytes[..count])
+// What comes next in the stream.
+#[derive(Clone, Copy)]
+pub enum Next {
+    Frame(Head),
+    // The stream says that it ends.
+    End,
+    // It ends and does not say so, or goes on with what is neither: then its bytes as a head, else zeros.
+    Broken(Head),
 }
 
-fn head_of(bytes: &[u8]) -> Head {
-    let low = float_bytes::byte_at(bytes, 2) as usize;
-    let high = float_bytes::byte_at(bytes, 3) as usize;
+fn head_of(bytes: &[u8; 48]) -> Head {
+    let low = usize::from(bytes[2]);
+    let high = usize::from(bytes[3]);
     Head {
-        kind: float_bytes::byte_at(bytes, 0),
-        starts: float_bytes::byte_at(bytes, 1),
+        starts: bytes[1] != 0,
         line: low + 256 * high,
-        number: float_bytes::half_at(bytes, 4) as u64,
+        number: u64::from(float_bytes::half_at(bytes, 4)),
         seed: float_bytes::word_at(bytes, 8),
         asked: float_bytes::word_at(bytes, 16) as usize,
         edge: float_bytes::word_at(bytes, 24) as usize,
@@ -51,48 +56,26 @@ fn head_of(bytes: &[u8]) -> Head {
     }
 }
 
-fn no_head() -> Head {
-    Head {
-        kind: 2,
-        starts: 0,
-        line: 0,
-        number: 0,
-        seed: 0,
-        asked: 0,
-        edge: 0,
-        input: 0,
-        hybrid: 0,
-        output: 0,
-    }
-}
-
-// The next head; of kind 2 where the stream has none.
-pub fn next_head(reader: &mut impl Read) -> Head {
+pub fn next(reader: &mut impl Read) -> Next {
     let mut bytes = [0u8; 48];
-    if !read(reader, &mut bytes) {
-        return no_head();
+    if reader.read_exact(&mut bytes).is_err() {
+        return Next::Broken(head_of(&[0u8; 48]));
     }
-    head_of(&bytes)
+    let head = head_of(&bytes);
+    match bytes[0] {
+        0 => Next::End,
+        1 => Next::Frame(head),
+        _ => Next::Broken(head),
+    }
 }
 
-// A QMF row of the input.
-fn read_row(reader: &mut impl Read, row: &mut [f64]) -> bool {
-    let mut bytes = [0u8; 1024];
-    if !read(reader, &mut bytes) {
-        return false;
+// The rows of the input, as many as are lent.
+pub fn read_rows(reader: &mut impl Read, input: &mut [f64]) -> io::Result<()> {
+    let (rows, _) = input.as_chunks_mut::<128>();
+    for row in rows.iter_mut() {
+        let mut bytes = [0u8; 1024];
+        reader.read_exact(&mut bytes)?;
+        float_bytes::read_floats(&bytes, row);
     }
-    float_bytes::read_floats(&bytes, row)
-}
-
-// The first rows of the input; false where the stream has not so many.
-pub fn read_rows(reader: &mut impl Read, count: usize, input: &mut [f64]) -> bool
-    requires { 128 * count ≤ length input.old }
-{
-    let mut whole = true;
-    for n in 0..count {
-        let at = 128 * n;
-        let got = read_row(reader, &mut input[at..at + 128]);
-        whole = whole & got;
-    }
-    whole
+    Ok(())
 }

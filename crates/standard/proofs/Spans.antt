@@ -4,8 +4,7 @@ use Prim.Native.Nat.{ℕ, zero, suc, ◌≤◌, ◌<◌}
 use native.Mathlib.Omega.{arith}
 use Rattle.layout.specs.declared.Layout.{Layout}
 use Rattle.layout.specs.declared.Layout.TheVariants.{Bands20, Bands34}
-use Rattle.layout.specs.Numbers.{split_of, unsplit_from_of}
-use Rattle.standard.specs.Hybrid.{first_channel_of}
+use Rattle.layout.specs.Numbers.{split_of, unsplit_from_of, first_channel_of}
 
 pub span_first : (l : Layout) → first_channel_of l 0 ≡ 0
 span_first Bands20 = refl

@@ -7,7 +7,7 @@ use Rattle.decimals.specs.declared.Prototype.TheVariants.{EighthsOfBand0, Halves
 use Rattle.decimals.specs.Prototypes.{prototype_of}
 use Rattle.layout.specs.declared.Layout.{Layout}
 use Rattle.layout.specs.declared.Layout.TheVariants.{Bands20, Bands34}
-use Rattle.layout.specs.Numbers.{split_of, unsplit_from_of}
+use Rattle.layout.specs.Numbers.{split_of, unsplit_from_of, first_channel_of}
 use Rattle.root_table.specs.Roots.{root_of}
 use Rattle.root_table.specs.Values.{root8, root16, root24}
 use Rattle.standard.specs.Numbers as numbers
@@ -71,11 +71,6 @@ unfoldable pub joined_to : Layout → ℕ → (ℕ → Complex) → ℕ → ℕ 
 joined_to l p x n k zero = nought
 joined_to l p x n k (suc q) =
     cond (eqb (channel_for l p q) k) (sum (joined_to l p x n k q) (filtered (prototype_for l p) q x n)) (joined_to l p x n k q)
-
--- the first hybrid channel of a split band, and that of the band after it
-abbrev pub first_channel_of : Layout → ℕ → ℕ
-first_channel_of Bands20 p = get_or (0 ∷ 6 ∷ 8 ∷ []) p 10
-first_channel_of Bands34 p = get_or (0 ∷ 12 ∷ 20 ∷ 24 ∷ 28 ∷ []) p 32
 
 -- the split QMF band of a channel
 abbrev pub band_below : Layout → ℕ → ℕ → ℕ

@@ -1,46 +1,43 @@
 -- `ps_hybrid_analysis::analyse` meets its contract: short input and lists without room are refused, and otherwise the split bands are written. Assumes nothing.
-use Prim.Native.Nat.{◌+◌, ◌*◌, ◌<◌, ◌≤◌}
+use mathlib.Core.Bool.{false}
+use mathlib.Core.Path.{◌≡◌}
+use Prim.Native.Nat.{◌+◌, ◌*◌}
 use native.Mathlib.Omega.{arith}
 use borrow.Author.Tests.{le-leb, lt-leb}
 use lib.ListN.{length}
 use Rattle.layout.specs.Numbers.{split_of, unsplit_from_of}
 use Rattle.layout.proofs.Bounds.{bounds}
+use Rattle.ps_hybrid_analysis.specs.Analysis.{enough}
 use Rattle.ps_hybrid_analysis.proofs.Whole.{refused, done}
 use Rattle.ps_hybrid_analysis.proofs.analyse.Goals as goal
+use Rattle.ps_hybrid_analysis.proofs.analyse.Goals.{then-input-slots-via-then-input-slots, then-input-slots-via-else-input-slots+then-history-split, then-input-slots-via-else-input-slots+else-history-split+then-samples-unsplit_from}
 
 pub returns-then-input-slots : goal.returns-then-input-slots
 returns-then-input-slots c =
     let a = c.args in
     let n = c.slots-slots.result in
-    let all = refused a.layout a.history.now a.input.now a.samples.now n (rw (lt-leb (128 * (n + 6)) (length a.input.now) c.if-input-slots.true)) in
+    let short : enough a.layout a.history.now a.input.now a.samples.now n ≡ false =
+    elim c.then-input-slots.branch [
+      | then-input-slots-via-then-input-slots w ↦ rw (lt-leb (128 * (n + 6)) (length a.input.now) w.if-input-slots.true)
+      | then-input-slots-via-else-input-slots+then-history-split w ↦
+          rw (le-leb (128 * (n + 6)) (length a.input.now) w.if-input-slots.false, lt-leb (12 * split_of a.layout) (length a.history.now) (omega (arith, w.if-history-split.true, w.split.ensures)))
+      | then-input-slots-via-else-input-slots+else-history-split+then-samples-unsplit_from w ↦
+          rw (
+            le-leb (128 * (n + 6)) (length a.input.now) w.if-input-slots.false,
+            le-leb (12 * split_of a.layout) (length a.history.now) (omega (arith, w.if-history-split.false, w.split.ensures)),
+            lt-leb (64 * unsplit_from_of a.layout) (length a.samples.now) (omega (arith, w.if-samples-unsplit_from.true, w.unsplit_from.ensures)),
+          )
+    ] in
+    let all = refused a.layout a.history.now a.input.now a.samples.now n short in
     rw (← c.slots-slots.ensures) (record { answer = all.0; history = all.1.0; samples = all.1.1 })
 
 pub overflow_mul-split : goal.overflow_mul-split
 overflow_mul-split c = let a = c.args in omega (arith, c.split.ensures, (bounds a.layout).split)
 
-pub returns-then-history-split : goal.returns-then-history-split
-returns-then-history-split c =
-    let a = c.args in
-    let n = c.slots-slots.result in
-    let short : length a.history.now < 12 * split_of a.layout = omega (arith, c.if-history-split.true, c.split.ensures) in
-    let all = refused a.layout a.history.now a.input.now a.samples.now n
-    (rw (le-leb (128 * (n + 6)) (length a.input.now) c.if-input-slots.false, lt-leb (12 * split_of a.layout) (length a.history.now) short)) in
-    rw (← c.slots-slots.ensures) (record { answer = all.0; history = all.1.0; samples = all.1.1 })
-
 pub overflow_mul-unsplit_from : goal.overflow_mul-unsplit_from
 overflow_mul-unsplit_from c =
     let l = c.args.layout in
     omega (arith, c.unsplit_from.ensures, (bounds l).passed, (bounds l).all_pass)
-
-pub returns-then-samples-unsplit_from : goal.returns-then-samples-unsplit_from
-returns-then-samples-unsplit_from c =
-    let a = c.args in
-    let n = c.slots-slots.result in
-    let held : 12 * split_of a.layout ≤ length a.history.now = omega (arith, c.if-history-split.false, c.split.ensures) in
-    let short : length a.samples.now < 64 * unsplit_from_of a.layout = omega (arith, c.if-samples-unsplit_from.true, c.unsplit_from.ensures) in
-    let all = refused a.layout a.history.now a.input.now a.samples.now n
-    (rw (le-leb (128 * (n + 6)) (length a.input.now) c.if-input-slots.false, le-leb (12 * split_of a.layout) (length a.history.now) held, lt-leb (64 * unsplit_from_of a.layout) (length a.samples.now) short)) in
-    rw (← c.slots-slots.ensures) (record { answer = all.0; history = all.1.0; samples = all.1.1 })
 
 pub split_bands-requires : goal.split_bands-requires
 split_bands-requires c =

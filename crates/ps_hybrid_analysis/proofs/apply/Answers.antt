@@ -1,12 +1,8 @@
 -- `ps_hybrid_analysis::apply` meets its contract: the taps are the filter's, and its channel's run is lent and comes back. Assumes nothing.
-use mathlib.Core.Path.{ap, ◌∙◌}
 use Prim.Native.Nat.{◌+◌, ◌-◌, ◌*◌}
 use native.Mathlib.Omega.{arith}
-use borrow.Author.Rules.{rules}
-use lib.ListN.{length}
 use Rattle.planar.specs.Cells.{cell}
-use Rattle.planar.proofs.Cells.{planar_length}
-use Rattle.standard.specs.Hybrid.{tap, filtered}
+use Rattle.standard.specs.Hybrid.{filtered}
 use Rattle.ps_hybrid_analysis.proofs.Channels.{width, lent_long, written_added}
 use Rattle.ps_hybrid_analysis.proofs.Spans.{filters_most}
 use Rattle.ps_hybrid_analysis.proofs.Taps.{convolved, filtered_is}
@@ -14,7 +10,7 @@ use Rattle.ps_hybrid_analysis.proofs.apply.Goals as goal
 
 pub taps-requires : goal.taps-requires
 taps-requires c =
-    record { waves_len = c.requires.waves_len; q_bound = (omega (arith, filters_most c.args.prototype), search rules) }
+    record { roots = c.requires.roots; q_bound = omega (arith, filters_most c.args.prototype) }
 
 pub channel-k-requires : goal.channel-k-requires
 channel-k-requires c =
@@ -26,10 +22,7 @@ slice_bounds-join-end c = omega (arith, c.channel-k.ensures.1)
 pub join-requires : goal.join-requires
 join-requires c =
     let k = c.channel-k.result in
-    record {
-      taps_len = (ap length c.taps.ensures ∙ planar_length 13 (tap c.args.prototype c.args.q), c.requires.band_len.0);
-      run_len = (lent_long k (64 * k + 64 - 64 * k) c.args.samples.now (width _ _) (omega (arith, c.channel-k.ensures.1, c.requires.band_len.1.0)), c.requires.band_len.1.1);
-    }
+    (lent_long k (64 * k + 64 - 64 * k) c.args.samples.now (width _ _) (omega (arith, c.channel-k.ensures.1, c.requires.room.0)), c.requires.room.1)
 
 pub returns : goal.returns
 returns c =
@@ -38,5 +31,5 @@ returns c =
     let taps = c.taps.new.out in
     rw (← c.channel-k.ensures.0)
     (written_added a.slots k (64 * k + 64 - 64 * k) (λ n. convolved (cell 13 taps) (cell 44 a.band.now) n 13)
-    (filtered a.prototype a.q (cell 44 a.band.now)) a.samples.now c.join.new.run (width _ _) (omega (arith, c.channel-k.ensures.1, c.requires.band_len.1.0))
-    c.requires.band_len.1.1 c.join.ensures (λ n. filtered_is a.prototype a.q taps (cell 44 a.band.now) n c.taps.ensures))
+    (filtered a.prototype a.q (cell 44 a.band.now)) a.samples.now c.join.new.run (width _ _) (omega (arith, c.channel-k.ensures.1, c.requires.room.0))
+    c.requires.room.1 c.join.ensures (λ n. filtered_is a.prototype a.q taps (cell 44 a.band.now) n c.taps.ensures))

@@ -16,8 +16,8 @@ pub apply-requires : goal.apply-requires
 apply-requires c =
     record {
       prototype_value = (c.requires.prototype_value.0, (c.requires.prototype_value.1, omega (arith, c.filters_of-count.ensures)));
-      waves_len = c.requires.waves_len;
-      band_len = (c.requires.band_len.0, (rw c.loop-q.invariant.written.long c.requires.band_len.1.0, c.requires.band_len.1.1));
+      roots = c.requires.roots;
+      room = (rw c.loop-q.invariant.written.long c.requires.room.0, c.requires.room.1);
     }
 
 pub loop-q-preserved : goal.loop-q-preserved
@@ -30,7 +30,7 @@ loop-q-preserved c =
       within = omega arith;
       written =
           joined_more a.layout a.p (cell 44 a.band.now) q a.prototype c.requires.prototype_value.0 c.loop-q.invariant.written c.apply.ensures
-          c.requires.band_len.1.1 inside.from inside.to;
+          c.requires.room.1 inside.from inside.to;
     }
 
 pub shape_of-samples : goal.shape_of-samples

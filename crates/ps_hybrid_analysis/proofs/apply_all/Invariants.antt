@@ -3,7 +3,8 @@ use Prim.Native.Nat.{ℕ, suc, ◌-◌, ◌≤◌}
 use lib.Ieee.{Float}
 use Rattle.layout.specs.declared.Layout.{Layout}
 use Rattle.planar.specs.Cells.{cell}
-use Rattle.standard.specs.Hybrid.{joined_to, first_channel_of}
+use Rattle.layout.specs.Numbers.{first_channel_of}
+use Rattle.standard.specs.Hybrid.{joined_to}
 use Rattle.ps_hybrid_analysis.specs.Stages.{Written}
 use Rattle.ps_hybrid_analysis.proofs.apply_all.Given as goal
 

@@ -4,7 +4,7 @@ use Prim.Native.Nat.{suc}
 use native.Mathlib.Numerals.{add-one}
 use native.Mathlib.Omega.{arith}
 use Rattle.planar.specs.Cells.{cell}
-use Rattle.standard.specs.Hybrid.{first_channel_of}
+use Rattle.layout.specs.Numbers.{first_channel_of}
 use Rattle.layout.proofs.Bounds.{bounds}
 use Rattle.standard.proofs.Spans.{spans}
 use Rattle.ps_hybrid_analysis.proofs.Split.{silenced, banded}
@@ -17,10 +17,10 @@ pub silence-requires : goal.silence-requires
 silence-requires c =
     let l = c.args.layout in
     let p = c.args.p in
-    let to : c.span-to.result ≡ first_channel_of l (suc p) = rw (add-one p) at c.span-to.ensures in (
-      omega (arith, c.span-from.ensures, to, (spans l p).rises),
-      omega (arith, to, (spans l (suc p)).most, c.requires.band_len.1.0),
-      c.requires.band_len.1.1,
+    let to : c.first_channel-to.result ≡ first_channel_of l (suc p) = rw (add-one p) at c.first_channel-to.ensures in (
+      omega (arith, c.first_channel-from.ensures, to, (spans l p).rises),
+      omega (arith, to, (spans l (suc p)).most, c.requires.room.0),
+      c.requires.room.1,
     )
 
 pub modulate-requires : goal.modulate-requires
@@ -28,12 +28,12 @@ modulate-requires c =
     let p = c.args.p in
     record {
       prototype_value = (c.prototype_for-prototype.ensures, c.requires.p_bound);
-      band_len = (c.requires.band_len.0, (rw c.silence.ensures.long c.requires.band_len.1.0, c.requires.band_len.1.1));
-      by_index = silenced c.args.layout p c.silence.ensures c.span-from.ensures (rw (add-one p) at c.span-to.ensures);
+      room = (rw c.silence.ensures.long c.requires.room.0, c.requires.room.1);
+      by_index = silenced c.args.layout p c.silence.ensures c.first_channel-from.ensures (rw (add-one p) at c.first_channel-to.ensures);
     }
 
 pub returns : goal.returns
 returns c =
     let p = c.args.p in
-    banded c.args.layout p (cell 44 c.args.band.now) c.prototype_for-prototype.result c.silence.ensures c.modulate.ensures c.span-from.ensures
-    (rw (add-one p) at c.span-to.ensures) c.prototype_for-prototype.ensures
+    banded c.args.layout p (cell 44 c.args.band.now) c.prototype_for-prototype.result c.silence.ensures c.modulate.ensures c.first_channel-from.ensures
+    (rw (add-one p) at c.first_channel-to.ensures) c.prototype_for-prototype.ensures

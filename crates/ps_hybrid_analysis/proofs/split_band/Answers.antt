@@ -1,5 +1,5 @@
 -- `ps_hybrid_analysis::split_band` meets its contract: the gathered slots are the band's as far as the filters and the history reach. Assumes nothing.
-use mathlib.Core.Path.{refl, ◌∙◌}
+use mathlib.Core.Path.{◌∙◌}
 use Prim.Native.Nat.{◌+◌}
 use native.Mathlib.Omega.{arith}
 use Rattle.planar.specs.Cells.{cell}
@@ -16,7 +16,7 @@ pub gather-requires : goal.gather-requires
 gather-requires c =
     record {
       p_bound = (omega (arith, (bounds c.args.layout).split, c.requires.p_bound.0), c.requires.p_bound.1.0);
-      history_len = (c.requires.p_bound.1.1, (c.requires.slots_in_bounds.0, refl));
+      history_len = (c.requires.p_bound.1.1, c.requires.slots_in_bounds.0);
     }
 
 pub returns : goal.returns

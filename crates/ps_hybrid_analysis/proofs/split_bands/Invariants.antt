@@ -6,7 +6,8 @@ use lib.ListN.{length}
 use Rattle.layout.specs.declared.Layout.{Layout}
 use Rattle.lists.proofs.Rows.{Rowed}
 use Rattle.planar.specs.Cells.{planar}
-use Rattle.standard.specs.Hybrid.{first_channel_of, hybrid}
+use Rattle.layout.specs.Numbers.{first_channel_of}
+use Rattle.standard.specs.Hybrid.{hybrid}
 use Rattle.ps_hybrid_analysis.specs.Analysis.{slot_at}
 use Rattle.ps_hybrid_analysis.specs.Stages.{Written}
 use Rattle.ps_hybrid_analysis.proofs.split_bands.Given as goal

@@ -1,4 +1,5 @@
 -- `queue_decorr::decorrelate` meets its contract: the factors of the frame, then its slots; nothing where a list is too short. Assumes nothing.
+use mathlib.Core.Bool.{false}
 use mathlib.Core.List.{List}
 use mathlib.Core.Path.{◌≡◌}
 use Prim.Native.Nat.{ℕ, ◌*◌, ◌≤◌, min}
@@ -7,8 +8,10 @@ use lib.Ieee.{Float, binary64, of_bits}
 use lib.ListN.{length, replicate, length-replicate}
 use Rattle.layout.specs.Numbers.{unsplit_from_of}
 use Rattle.queue_decorr.specs.declared.QueueDecorr.{QueueDecorr}
+use Rattle.queue_decorr.specs.Frame.{enough}
 use Rattle.queue_decorr.proofs.Frames.{Room, frame_lent, out_is, state_is, same_out, same_state, short_input, short_split, short_out}
 use Rattle.queue_decorr.proofs.decorrelate.Goals as goal
+use Rattle.queue_decorr.proofs.decorrelate.Goals.{then-input-count-via-then-input-count, then-input-count-via-else-input-count+then-split-unsplit_from, then-input-count-via-else-input-count+else-split-unsplit_from+then-out-count}
 
 -- the factors' list before they are there
 abbrev blank_list : List Float
@@ -35,28 +38,24 @@ twice slots = omega arith
 pub returns-then-input-count : goal.returns-then-input-count
 returns-then-input-count c =
     let a = c.args in
-    let short = short_input a.state a.split.now a.input.now a.out.now (min a.slots 32) (rw c.least-count.ensures at c.if-input-count.true) in
-    record { state = same_state a.state _ _ _ _ short; out = same_out a.state _ _ _ _ short }
-
-pub returns-then-split-unsplit_from : goal.returns-then-split-unsplit_from
-returns-then-split-unsplit_from c =
-    let a = c.args in
-    let input_there = rw c.least-count.ensures at c.if-input-count.false in
-    let short = short_split a.state a.split.now a.input.now a.out.now (min a.slots 32) input_there (rw c.unsplit_from.ensures at c.if-split-unsplit_from.true) in
-    record { state = same_state a.state _ _ _ _ short; out = same_out a.state _ _ _ _ short }
-
-pub returns-then-out-count : goal.returns-then-out-count
-returns-then-out-count c =
-    let a = c.args in
-    let input_there = rw c.least-count.ensures at c.if-input-count.false in
-    let split_there = rw c.unsplit_from.ensures at c.if-split-unsplit_from.false in
-    let short = short_out a.state a.split.now a.input.now a.out.now (min a.slots 32) input_there split_there (rw c.least-count.ensures at c.if-out-count.true) in
+    let slots = min a.slots 32 in
+    let count = c.min-count.ensures in
+    let short : enough a.state a.split.now a.input.now a.out.now slots ≡ false =
+    elim c.then-input-count.branch [
+      | then-input-count-via-then-input-count w ↦ short_input a.state a.split.now a.input.now a.out.now slots (rw count at w.if-input-count.true)
+      | then-input-count-via-else-input-count+then-split-unsplit_from w ↦
+          short_split a.state a.split.now a.input.now a.out.now slots (rw count at w.if-input-count.false)
+          (rw w.unsplit_from.ensures at w.if-split-unsplit_from.true)
+      | then-input-count-via-else-input-count+else-split-unsplit_from+then-out-count w ↦
+          short_out a.state a.split.now a.input.now a.out.now slots (rw count at w.if-input-count.false)
+          (rw w.unsplit_from.ensures at w.if-split-unsplit_from.false) (rw count at w.if-out-count.true)
+    ] in
     record { state = same_state a.state _ _ _ _ short; out = same_out a.state _ _ _ _ short }
 
 pub through-requires : goal.through-requires
 through-requires c =
     let a = c.args in
-    let count = c.least-count.ensures in
+    let count = c.min-count.ensures in
     let room = room_for a.state a.split.now a.input.now a.out.now a.slots c.well_formed.0.1.1.1.1.0.1.0.1 c.well_formed.0.1.1.1.1.1.0.1.0.1
     (rw count at c.if-input-count.false) (rw c.unsplit_from.ensures at c.if-split-unsplit_from.false) (rw count at c.if-out-count.false) in
     rw count (frame_lent a.state a.split.now a.input.now a.out.now blank_list (min a.slots 32) room c.duck.new.gains (rw (count, twice a.slots) at c.duck.ensures.gains))
@@ -64,7 +63,7 @@ through-requires c =
 pub returns : goal.returns
 returns c =
     let a = c.args in
-    let count = c.least-count.ensures in
+    let count = c.min-count.ensures in
     let room = room_for a.state a.split.now a.input.now a.out.now a.slots c.well_formed.0.1.1.1.1.0.1.0.1 c.well_formed.0.1.1.1.1.1.0.1.0.1
     (rw count at c.if-input-count.false) (rw c.unsplit_from.ensures at c.if-split-unsplit_from.false) (rw count at c.if-out-count.false) in
     let gains_are = rw (count, twice a.slots) at c.duck.ensures.gains in

@@ -2,8 +2,11 @@
 use mathlib.Core.Bool.{Bool}
 use mathlib.Core.Path.{◌≡◌, ap, ap₂, ◌∙◌}
 use native.Mathlib.Omega.{arith}
-use Prim.Native.Nat.{◌≤◌}
-use lib.ListN.{length}
+use Prim.Native.Nat.{◌-◌, ◌≤◌}
+use borrow.Author.Rules.{rules}
+use lib.Ieee.{binary64, of_bits}
+use lib.ListN.{length, replicate, take, drop}
+use Rattle.standard.proofs.Literals.{zero_is}
 use Rattle.ps_state.specs.Ready.{cleared_place}
 use Rattle.queue_decorr.specs.declared.QueueDecorr.{QueueDecorr}
 use Rattle.queue_decorr.specs.Queues.{place_of}
@@ -22,7 +25,8 @@ returns c =
     let from : c.place-from.result ≡ place_of a.layout cleared = c.place-from.ensures ∙ ap (place_of a.layout) c.cleared_place.ensures in
     let within : c.place-from.result ≤ 1794 = omega (arith, from, place_rises a.layout _ _ (cleared_most a.layout a.edge before.cued), place_most a.layout) in
     let wide : length before.queues ≡ 1794 = ap (λ (s : QueueDecorr). length s.queues) is ∙ switched_long a.layout a.state c.well_formed.0.1.1.1.1.0.1.0.1 in
-    let back = silent_back c.place-from.result before.queues c.silence.new.xs wide within c.silence.ensures in
+    let silent : c.fill.new.self ≡ replicate (length (take (1794 - c.place-from.result) (drop c.place-from.result before.queues))) (of_bits binary64 0) = search rules in
+    let back = silent_back c.place-from.result before.queues c.fill.new.self wide within (silent ∙ ap (replicate _) zero_is) in
     λ i. record {
       layout = a.layout;
       cued = a.cued;

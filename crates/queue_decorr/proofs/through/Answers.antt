@@ -5,11 +5,11 @@ use Rattle.queue_decorr.proofs.through.Goals as goal
 
 pub slots-requires : goal.slots-requires
 slots-requires c =
-    (c.rotations_20-table.ensures ∙ ap rotations_of (sym c.in-Bands20.is), c.requires)
+    (c.rotations_20.ensures ∙ ap rotations_of (sym c.in-Bands20.is), c.requires)
 
 pub slots-requires-in-Bands34 : goal.slots-requires-in-Bands34
 slots-requires-in-Bands34 c =
-    (c.rotations_34-table.ensures ∙ ap rotations_of (sym c.in-Bands34.is), c.requires)
+    (c.rotations_34.ensures ∙ ap rotations_of (sym c.in-Bands34.is), c.requires)
 
 pub returns-in-Bands20 : goal.returns-in-Bands20
 returns-in-Bands20 c = c.slots.ensures

@@ -8,9 +8,9 @@ use lib.Ieee.{Float}
 use lib.ListN.{length-set}
 use Rattle.complex.specs.declared.Complex.{Complex}
 use Rattle.layout.specs.declared.Layout.{Layout}
-use Rattle.layout.specs.Numbers.{split_of}
+use Rattle.layout.specs.Numbers.{split_of, first_channel_of}
 use Rattle.layout.proofs.Bounds.{bounds}
-use Rattle.standard.specs.Hybrid.{first_channel_of, added_to, synthesised}
+use Rattle.standard.specs.Hybrid.{added_to, synthesised}
 use Rattle.standard.proofs.Spans.{spans}
 use Rattle.ps_allpass_channels.specs.Desks.{standing, Rowed}
 use Rattle.ps_allpass_channels.proofs.Leaving.{rowed_none, rowed_more, band_split}

@@ -2,7 +2,6 @@
 use mathlib.Core.Path.{◌≡◌, refl}
 use Prim.Native.Nat.{◌+◌, ◌-◌, ◌*◌}
 use native.Mathlib.Omega.{arith}
-use lib.ListN.{length-set}
 use borrow.Author.Tests.{lt-ltb, le-ltb}
 use Rattle.planar.specs.Cells.{cell}
 use Rattle.ps_hybrid_analysis.proofs.Runs.{filled_more, filled_planar}
@@ -16,9 +15,6 @@ loop-j-init c =
       filled = record { long = refl; done = λ i u w. rw (lt-ltb i 6 u); rest = λ i u w. refl };
     }
 
-pub bounds-band-j-in-loop-j : goal.bounds-band-j-in-loop-j
-bounds-band-j-in-loop-j c = simp length-set (omega (arith, c.loop-j.invariant.filled.long))
-
 pub loop-j-preserved : goal.loop-j-preserved
 loop-j-preserved c =
     let j = c.loop-j.j in
@@ -30,10 +26,7 @@ loop-j-preserved c =
           (rw (le-ltb j 6 c.loop-j.invariant.after)) (omega arith) (omega arith);
     }
 
-pub shape_of-band : goal.shape_of-band
-shape_of-band c = c.loop-j.invariant.filled.long
-
 pub returns : goal.returns
 returns c =
     let all : c.loop-j.j ≡ c.args.count = omega arith in
-    rw all at (filled_planar c.loop-j.invariant.filled c.requires.count_in_bounds.1)
+    rw all at (filled_planar c.loop-j.invariant.filled (omega arith))

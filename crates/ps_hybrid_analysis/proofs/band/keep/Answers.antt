@@ -25,4 +25,4 @@ shape_of-history c = c.loop-j.invariant.filled.long
 
 pub returns : goal.returns
 returns c =
-    filled_all c.loop-j.invariant.filled (omega arith) c.requires.1.1
+    filled_all c.loop-j.invariant.filled (omega arith) c.requires.1

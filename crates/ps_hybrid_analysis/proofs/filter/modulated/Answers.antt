@@ -18,12 +18,12 @@ pub returns-then-is_complex : goal.returns-then-is_complex
 returns-then-is_complex c =
     let a = c.args in
     complex_tap a.prototype a.g a.q a.m (cell 1 a.waves.now (2 * c.turn-turn.result)) c.requires.q_bound.2
-    (root a.prototype a.q a.m c.turn-turn.result a.waves.now c.requires.waves_len.1 c.turn-turn.ensures.0)
+    (root a.prototype a.q a.m c.turn-turn.result a.waves.now c.requires.roots c.turn-turn.ensures.0)
     (sym c.is_complex.ensures ∙ c.if-is_complex.true)
 
 pub returns-else-is_complex : goal.returns-else-is_complex
 returns-else-is_complex c =
     let a = c.args in
     real_tap a.prototype a.g a.q a.m (cell 1 a.waves.now (2 * c.turn-turn.result)) c.requires.q_bound.2
-    (root a.prototype a.q a.m c.turn-turn.result a.waves.now c.requires.waves_len.1 c.turn-turn.ensures.0)
+    (root a.prototype a.q a.m c.turn-turn.result a.waves.now c.requires.roots c.turn-turn.ensures.0)
     (sym c.is_complex.ensures ∙ c.if-is_complex.false)

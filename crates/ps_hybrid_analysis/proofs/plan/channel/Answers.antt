@@ -15,7 +15,7 @@ channel_of_71-requires c =
 pub overflow_add-result : goal.overflow_add-result
 overflow_add-result c =
     let a = c.args in
-    omega (arith, c.span.ensures, (spans a.layout a.p).few, filters_most (prototype_for a.layout a.p))
+    omega (arith, c.first_channel.ensures, (spans a.layout a.p).few, filters_most (prototype_for a.layout a.p))
 
 pub returns-in-Bands20 : goal.returns-in-Bands20
 returns-in-Bands20 c =
@@ -25,4 +25,4 @@ pub returns-in-Bands34 : goal.returns-in-Bands34
 returns-in-Bands34 c =
     let told = c.in-Bands34.is in
     let inside : c.args.p < 5 = rw told at c.requires.0 in
-    channel_few c.args.layout c.args.p c.args.q _ c.requires.0 c.requires.1 (rw (c.span.ensures, told) (sym (channel_of_34 _ _ inside)))
+    channel_few c.args.layout c.args.p c.args.q _ c.requires.0 c.requires.1 (rw (c.first_channel.ensures, told) (sym (channel_of_34 _ _ inside)))

@@ -20,7 +20,7 @@ loop-k-preserved c =
     let width = c.size-width.ensures in
     rw width
     (going_more _ _ _ _ _ c.loop-k.invariant c.loop-k-test.true c.channel-y.new.numbers c.channel-y.result c.scale-d.result
-    (rw width at c.channel-y.ensures.numbers) (rw width at c.channel-y.ensures.answer) c.scale-d.ensures)
+    (rw width at c.channel-y.ensures.numbers) (rw width at c.channel-y.ensures.answer) (rw c.from-b.ensures at c.scale-d.ensures))
 
 pub returns : goal.returns
 returns c = going_all _ _ _ _ _ c.loop-k.invariant c.loop-k-test.false
