@@ -52,20 +52,12 @@ pub fn lefasumu_frame(
         return told(Answer::Buffers);
     }
     let carried = ps_memory::load(memory);
-    let played = ps_decoder::lent_frame(
-        carried,
-        &mut memory[ps_memory::SOUND..MEMORY],
-        line,
-        input,
-        edge,
-        left,
-        right,
-    );
-    let answer = played.answer;
-    let Answer::Done = answer else {
-        return told(answer);
-    };
-    let after = played.carried;
-    ps_memory::store(after, memory);
-    told(answer)
+    let sound = &mut memory[ps_memory::SOUND..MEMORY];
+    match ps_decoder::lent_frame(carried, sound, line, input, edge, left, right) {
+        Ok(after) => {
+            ps_memory::store(after, memory);
+            told(Answer::Done)
+        }
+        Err(answer) => told(answer),
+    }
 }
