@@ -14,8 +14,7 @@ use Rattle.answer.specs.Number.{number_of}
 use Rattle.calls.specs.Call.{Call, answer, played}
 use Rattle.lists.specs.Part.{part, put}
 use Rattle.lists.proofs.Parts.{part_length, tail_back}
-use Rattle.ps_decoder.specs.declared.Answered.{Answered}
-use Rattle.ps_decoder.specs.Frame.{decoder_after, Returned, returned, returned_by}
+use Rattle.ps_decoder.specs.Frame.{Answered, decoder_after, Returned, returned, returned_by}
 use Rattle.ps_memory.specs.Place as place
 use Rattle.ps_memory.specs.Place.{numbers, sound_at, small_image, image, carried_in, loaded, loaded_from, stored_in}
 use Rattle.ps_state.specs.declared.PsCarried.{PsCarried}

@@ -23,7 +23,7 @@ pub fn lefasumu_memory() -> usize
 fn told(answer: Answer) -> u32
     ensures { result ≡ number_of answer }
 {
-    u32::from(u8::from(answer))
+    answer.number() as u32
 }
 
 // Makes memory that of a fresh decoder, whatever it held. Memory of another length is refused.
@@ -52,19 +52,12 @@ pub fn lefasumu_frame(
         return told(Answer::Buffers);
     }
     let carried = ps_memory::load(memory);
-    let played = ps_decoder::lent_frame(
-        carried,
-        &mut memory[ps_memory::SOUND..MEMORY],
-        line,
-        input,
-        edge,
-        left,
-        right,
-    );
-    let answer = played.answer;
-    let Answer::Done = answer else {
-        return told(answer);
-    };
-    ps_memory::store(played.carried, memory);
-    told(answer)
+    let sound = &mut memory[ps_memory::SOUND..MEMORY];
+    match ps_decoder::lent_frame(carried, sound, line, input, edge, left, right) {
+        Ok(after) => {
+            ps_memory::store(after, memory);
+            told(Answer::Done)
+        }
+        Err(answer) => told(answer),
+    }
 }

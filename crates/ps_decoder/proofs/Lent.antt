@@ -1,5 +1,5 @@
 -- A call of a state apart, whose sound is lent, by the call of the state put together, and back. Assumes nothing.
-use mathlib.Core.Path.{◌≡◌, sym, ap, subst, ◌∙◌}
+use mathlib.Core.Path.{◌≡◌, sym, ap, ◌∙◌}
 use mathlib.Core.Logic.{◌≢◌}
 use mathlib.Core.List.{List}
 use borrow.Author.Tests.{eq-eqb, ne_eqb}
@@ -7,16 +7,15 @@ use lib.Ieee.{Float}
 use lib.ListN.{length}
 use Rattle.answer.specs.declared.Answer.{Answer}
 use Rattle.answer.specs.declared.Answer.TheVariants.{Buffers}
+use Rattle.answer.specs.Number.{number_of}
 use Rattle.calls.specs.Call.{Call, answer, played}
 use Rattle.ps_state.specs.declared.PsCarried.{PsCarried}
 use Rattle.ps_state.specs.declared.PsDecoder.{PsDecoder}
 use Rattle.ps_state.specs.State.{sound_long, decoder_in, carried_of, sound_of, playing_of}
 use Rattle.ps_state.specs.Shape.{Shaped}
 use Rattle.ps_state.proofs.Lent.{heard, heard_in, sound_in, sound_length, decoder_apart}
-use Rattle.ps_decoder.specs.declared.Answered.{Answered}
-use Rattle.ps_decoder.specs.declared.Played.{Played}
-use Rattle.ps_decoder.specs.Frame.{decoder_after, played_by, Returned, returned, returned_by}
-use Rattle.ps_decoder.proofs.Refusals.{Left}
+use Rattle.ps_decoder.specs.Frame.{Answered, Played, decoder_after, played_by, Returned, returned, returned_by}
+use Rattle.ps_decoder.proofs.Refusals.{Left, unchanged}
 use Rattle.ps_decoder.proofs.Run.{shaped_after}
 
 -- a state of sound that is long enough, whose phases are of their type
@@ -31,10 +30,9 @@ joined r sound = record { answer = r.answer; state = decoder_in r.carried sound 
 
 module _ (s : PsCarried) (m : List Float) (c : Call) where
   -- sound of another length
-  pub other_length : (r : Answered) → length m ≢ sound_long → (r.answer ≡ Buffers) × (r.carried ≡ s) → returned r m c.left c.right ≡ returned_by s m c
+  pub other_length : length m ≢ sound_long → returned (record { answer = Buffers; carried = s }) m c.left c.right ≡ returned_by s m c
   unfolding returned_by
-  other_length r ne is =
-      rw (ne_eqb (length m) sound_long ne) (λ i. record { answered = record { answer = is.0 i; carried = is.1 i }; sound = m; left = c.left; right = c.right })
+  other_length ne = rw (ne_eqb (length m) sound_long ne)
 
   -- and of this one
   pub lent_told : (r : Answered) (sound left right : List Float) → length m ≡ sound_long → length sound ≡ sound_long → Left (decoder_in s m) c (joined r sound) left right
@@ -52,11 +50,9 @@ module _ (s : PsCarried) (m : List Float) (c : Call) where
       })
 
   -- a refusal leaves what is small as it was too
-  pub lent_refused : (a : Answer) (r : Answered) → length m ≡ sound_long → (r.answer ≡ a) × (r.carried ≡ s)
-      → Left (decoder_in s m) c (record { answer = a; state = decoder_in s m }) c.left c.right → returned r m c.left c.right ≡ returned_by s m c
-  lent_refused a r long is told =
-      subst (λ (x : Answered). returned x m c.left c.right ≡ returned_by s m c) (λ i. record { answer = sym is.0 i; carried = sym is.1 i })
-      (lent_told (record { answer = a; carried = s }) m c.left c.right long long told)
+  pub lent_refused : (a : Answer) → length m ≡ sound_long → Left (decoder_in s m) c (record { answer = a; state = decoder_in s m }) c.left c.right
+      → returned (record { answer = a; carried = s }) m c.left c.right ≡ returned_by s m c
+  lent_refused a long told = lent_told (record { answer = a; carried = s }) m c.left c.right long long told
 
 -- a whole state, taken apart for the call
 module _ (s : PsDecoder) (shaped : Shaped s) (c : Call) where
@@ -78,3 +74,12 @@ module _ (s : PsDecoder) (shaped : Shaped s) (c : Call) where
         λ i. record { answer = (is i).answered.answer; state = state i },
         (ap (λ (t : Returned). t.left) is, ap (λ (t : Returned). t.right) is),
       )
+
+  -- a call that is not accepted leaves the whole state
+  pub whole_refused : (a : Answer) (sound left right : List Float) → number_of a ≢ 0
+      → returned (record { answer = a; carried = carried_of s }) sound left right ≡ returned_by (carried_of s) (sound_of s) c
+      → Left s c (record { answer = a; state = s }) left right
+  whole_refused a sound left right other told =
+      let is : returned (record { answer = a; carried = carried_of s }) sound left right ≡ returned_from s = told ∙ apart_is in
+      let said : a ≡ answer (playing_of s) c = ap (λ (t : Returned). t.answered.answer) is in
+      ((unchanged s c a (sym said) other).0, (ap (λ (t : Returned). t.left) is, ap (λ (t : Returned). t.right) is))

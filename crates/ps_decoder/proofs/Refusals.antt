@@ -20,8 +20,7 @@ use Rattle.cue.specs.declared.Header.{Header}
 use Rattle.ps_data.specs.Indices.{read_answer}
 use Rattle.ps_state.specs.declared.PsDecoder.{PsDecoder}
 use Rattle.ps_state.specs.State.{playing_of}
-use Rattle.ps_decoder.specs.declared.Played.{Played}
-use Rattle.ps_decoder.specs.Frame.{decoder_after, played_by}
+use Rattle.ps_decoder.specs.Frame.{Played, decoder_after, played_by}
 
 -- what the driver returns, and what stands in the outputs
 abbrev pub Left : PsDecoder → Call → Played → List Float → List Float → Type 0

@@ -1,7 +1,7 @@
 -- A run of the decoder from a fresh one, each call handed the numbers that the call before returned. Assumes nothing.
 use Rattle.std.specs.Prelude.{ℕ, zero, suc, List, ◌≡◌, Float}
 use Rattle.answer.specs.declared.Answer.{Answer}
-use Rattle.calls.specs.Call.{Call, Outcome, fresh, played}
+use Rattle.calls.specs.Call.{Call, fresh, played}
 use Rattle.calls.specs.Run.{outcome}
 use Rattle.ps_state.specs.declared.PsDecoder.{PsDecoder}
 use Rattle.ps_state.specs.State.{fresh_decoder, playing_of}

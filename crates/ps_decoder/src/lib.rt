@@ -3,33 +3,20 @@
 
 mod sound;
 
-ghost use Rattle.std.specs.Prelude.{◌≡◌, ◌+◌, ◌*◌, ◌≤◌, length};
+ghost use Rattle.std.specs.Prelude.{◌≡◌, ◌+◌, ◌*◌, ◌<◌, ◌≤◌, length, IfErr};
+ghost use Rattle.answer.specs.Number.{number_of};
 ghost use Rattle.borders.specs.Borders.{slots_of};
 ghost use Rattle.calls.specs.Call.{played};
 ghost use Rattle.ps_data.specs.Indices.{layout_in};
 ghost use Rattle.ps_state.specs.Ready.{readied};
 ghost use Rattle.ps_state.specs.State.{decoder_in, playing_of, sound_long};
-ghost use Rattle.ps_decoder.specs.Frame.{call_of, played_by, returned, returned_by};
+ghost use Rattle.ps_decoder.specs.Frame.{call_of, answered, answered_whole, played_by, returned, returned_by};
 ghost use Rattle.ps_decoder.specs.Sound.{Sounded};
 
 use answer::Answer;
 use cue::Header;
 use ps_data::Resolved;
 use ps_state::{PsCarried, PsDecoder};
-
-// What a call answers, and the state after it.
-#[derive(Clone, Copy)]
-pub struct Played {
-    pub answer: Answer,
-    pub state: PsDecoder,
-}
-
-// The same of a state whose sound is lent.
-#[derive(Clone, Copy)]
-pub struct Answered {
-    pub answer: Answer,
-    pub carried: PsCarried,
-}
 
 // An accepted frame, whose input is long enough.
 fn play(
@@ -54,17 +41,9 @@ fn play(
     sound::sound(ready, sound, header, resolved, input, left, right)
 }
 
-fn refused(answer: Answer, carried: PsCarried) -> Answered
-    ensures { (result.answer ≡ answer) × (result.carried ≡ carried) }
-{
-    Answered {
-        answer: answer,
-        carried: carried,
-    }
-}
-
-// A frame: a cue line, the input's QMF rows, the spectrum edge, and the two outputs. A call that is not answered with Done changes nothing. What is small in
-// the state goes by value, its sound is lent, so that nothing large is copied; sound of another length is refused as a buffer is.
+// A frame: a cue line, the input's QMF rows, the spectrum edge, and the two outputs. What is small in the state goes by value and comes back once the frame is
+// accepted; its sound is lent, so that nothing large is copied. A call that is not accepted says its answer and changes nothing; sound of another length is
+// refused as a buffer is.
 pub fn lent_frame(
     carried: PsCarried,
     sound: &mut [f64],
@@ -73,32 +52,30 @@ pub fn lent_frame(
     edge: usize,
     left: &mut [f64],
     right: &mut [f64],
-) -> Answered
-    ensures { returned result sound.new left.new right.new
+) -> Result<PsCarried, Answer>
+    ensures told { returned (answered carried result) sound.new left.new right.new
         ≡ returned_by carried sound.old (call_of line.now input.now edge left.old right.old) }
+    ensures refused { IfErr result (λ a. 0 < number_of a) }
 {
     if sound.len() != ps_state::SOUND {
-        return refused(Answer::Buffers, carried);
+        return Err(Answer::Buffers);
     }
     let lines = carried.lines;
     let resolved = ps_data::resolve(lines, line);
     let read = resolved.line;
     let Ok(header) = read else {
-        return refused(cue::answer_of(read), carried);
+        return Err(cue::answer_of(read));
     };
     let of_line = ps_data::read_answer(header, lines.configured);
     let Answer::Done = of_line else {
-        return refused(of_line, carried);
+        return Err(of_line);
     };
     let of_input = ps_input::input_answer(carried.asked, input, left.len(), right.len());
     let Answer::Done = of_input else {
-        return refused(of_input, carried);
+        return Err(of_input);
     };
     let next = play(carried, sound, header, resolved, input, edge, left, right);
-    Answered {
-        answer: Answer::Done,
-        carried: next,
-    }
+    Ok(next)
 }
 
 // A frame of a whole state by value.
@@ -109,18 +86,14 @@ pub fn frame(
     edge: usize,
     left: &mut [f64],
     right: &mut [f64],
-) -> Played
-    ensures state { result ≡ played_by state (call_of line.now input.now edge left.old right.old) }
+) -> Result<PsDecoder, Answer>
+    ensures state { answered_whole state result ≡ played_by state (call_of line.now input.now edge left.old right.old) }
+    ensures refused { IfErr result (λ a. 0 < number_of a) }
     ensures left { left.new ≡ (played (playing_of state) (call_of line.now input.now edge left.old right.old)).left }
     ensures right { right.new ≡ (played (playing_of state) (call_of line.now input.now edge left.old right.old)).right }
 {
     let carried = ps_state::apart(state);
     let mut sound = ps_state::sound(state);
-    let answered = lent_frame(carried, &mut sound, line, input, edge, left, right);
-    let answer = answered.answer;
-    let after = answered.carried;
-    Played {
-        answer: answer,
-        state: ps_state::together(after, &sound),
-    }
+    let after = lent_frame(carried, &mut sound, line, input, edge, left, right)?;
+    Ok(ps_state::together(after, &sound))
 }

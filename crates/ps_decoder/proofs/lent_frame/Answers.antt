@@ -2,13 +2,16 @@
 -- nothing.
 use Rattle.std.specs.Prelude.{Ok}
 use native.Mathlib.Omega.{arith}
-use borrow.Author.Rules.{rules}
+use Rattle.std.proofs.Common.{◌<◌}
 use mathlib.Core.Path.{◌≡◌, sym, ap, ◌∙◌}
-use lib.ListN.{length, length-map}
+use mathlib.Core.Logic.{◌≢◌}
+use lib.ListN.{length}
+use Rattle.answer.specs.declared.Answer.{Answer}
 use Rattle.answer.specs.declared.Answer.TheVariants.{Done}
+use Rattle.answer.specs.Number.{number_of}
 use Rattle.answer.proofs.Refused.{zero_done}
 use Rattle.calls.specs.Call.{Call, resolved}
-use Rattle.calls.proofs.Accepts.{taken_room}
+use Rattle.calls.proofs.Accepts.{taken_room, refused_not_done}
 use Rattle.cue.specs.declared.Header.{Header}
 use Rattle.cue.specs.Line as line
 use Rattle.ps_data.specs.declared.Resolved.{Resolved}
@@ -22,63 +25,86 @@ use Rattle.ps_decoder.proofs.Outcomes.{accepted}
 use Rattle.ps_decoder.proofs.Refusals.{line_refused, quiet, input_refused}
 use Rattle.ps_decoder.proofs.lent_frame.Goals as goal
 
--- sound of another length
-pub returns-then-sound-ne-SOUND : goal.returns-then-sound-ne-SOUND
-returns-then-sound-ne-SOUND c =
-    let call_by : Call = call_of c.args.line.now c.args.input.now c.args.edge c.args.left.now c.args.right.now in
-    other_length c.args.carried c.args.sound.now call_by c.refused.result (λ e. omega (arith, c.if-sound-ne-SOUND.true, e)) c.refused.ensures
+-- an answer that is not Done is a number above 0
+not_zero : (a : Answer) → a ≢ Done → 0 < number_of a
+not_zero a other =
+    let nonzero : number_of a ≢ 0 = λ e. other (zero_done a e) in
+    omega (arith, nonzero)
 
-pub returns-in_default : goal.returns-in_default
+-- sound of another length
+pub returns-then-sound-ne-SOUND-clause-told : goal.returns-then-sound-ne-SOUND-clause-told
+returns-then-sound-ne-SOUND-clause-told c =
+    let call_by : Call = call_of c.args.line.now c.args.input.now c.args.edge c.args.left.now c.args.right.now in
+    other_length c.args.carried c.args.sound.now call_by (λ e. omega (arith, c.if-sound-ne-SOUND.true, e))
+
+-- a line that is refused
+pub returns-in_default-clause-told : goal.returns-in_default-clause-told
 unfolding playing_of
-returns-in_default c =
+returns-in_default-clause-told c =
     let call_by : Call = call_of c.args.line.now c.args.input.now c.args.edge c.args.left.now c.args.right.now in
     let state : PsDecoder = decoder_in c.args.carried c.args.sound.now in
-    let call : Call = call_by in
     let long : length c.args.sound.now ≡ sound_long = omega arith in
-    let resolved_is : c.resolve-resolved.result ≡ resolved (playing_of state) call = c.resolve-resolved.ensures in
+    let resolved_is : c.resolve-resolved.result ≡ resolved (playing_of state) call_by = c.resolve-resolved.ensures in
     let refused = c.in_default.is in
     let answered = c.answer_of.ensures ∙ ap line.answer_of refused in
-    lent_refused c.args.carried c.args.sound.now call _ c.refused-in_default.result long (c.refused-in_default.ensures.0 ∙ answered, c.refused-in_default.ensures.1)
-    (line_refused state call _ (ap (λ (x : Resolved). x.line) (sym resolved_is) ∙ refused))
+    rw answered (lent_refused c.args.carried c.args.sound.now call_by _ long
+    (line_refused state call_by _ (ap (λ (x : Resolved). x.line) (sym resolved_is) ∙ refused)))
 
-pub returns-in_default-of_line : goal.returns-in_default-of_line
+pub returns-in_default-clause-refused : goal.returns-in_default-clause-refused
 unfolding playing_of
-returns-in_default-of_line c =
+returns-in_default-clause-refused c =
     let call_by : Call = call_of c.args.line.now c.args.input.now c.args.edge c.args.left.now c.args.right.now in
     let state : PsDecoder = decoder_in c.args.carried c.args.sound.now in
-    let call : Call = call_by in
+    let resolved_is : c.resolve-resolved.result ≡ resolved (playing_of state) call_by = c.resolve-resolved.ensures in
+    let refused = c.in_default.is in
+    let answered = c.answer_of.ensures ∙ ap line.answer_of refused in
+    let other = refused_not_done (playing_of state) call_by _ (ap (λ (x : Resolved). x.line) (sym resolved_is) ∙ refused) in
+    rw answered (omega (arith, other))
+
+-- an empty line before any configuration
+pub returns-in_default-of_line-clause-told : goal.returns-in_default-of_line-clause-told
+unfolding playing_of
+returns-in_default-of_line-clause-told c =
+    let call_by : Call = call_of c.args.line.now c.args.input.now c.args.edge c.args.left.now c.args.right.now in
+    let state : PsDecoder = decoder_in c.args.carried c.args.sound.now in
     let long : length c.args.sound.now ≡ sound_long = omega arith in
-    let resolved_is : c.resolve-resolved.result ≡ resolved (playing_of state) call = c.resolve-resolved.ensures in
+    let resolved_is : c.resolve-resolved.result ≡ resolved (playing_of state) call_by = c.resolve-resolved.ensures in
     let header : Header = c.in-Ok.header in
-    let says : (resolved (playing_of state) call).line ≡ Ok header = ap (λ (x : Resolved). x.line) (sym resolved_is) ∙ c.in-Ok.is in
+    let says : (resolved (playing_of state) call_by).line ≡ Ok header = ap (λ (x : Resolved). x.line) (sym resolved_is) ∙ c.in-Ok.is in
     let read = c.read_answer-of_line in
-    lent_refused c.args.carried c.args.sound.now call read.result c.refused-in_default-of_line.result long c.refused-in_default-of_line.ensures
-    (quiet state call header read.result says read.ensures (λ e. c.in_default-of_line.not-Done (zero_done read.result e)))
+    lent_refused c.args.carried c.args.sound.now call_by read.result long
+    (quiet state call_by header read.result says read.ensures (λ e. c.in_default-of_line.not-Done (zero_done read.result e)))
 
-pub returns-in_default-of_input : goal.returns-in_default-of_input
+pub returns-in_default-of_line-clause-refused : goal.returns-in_default-of_line-clause-refused
+returns-in_default-of_line-clause-refused c = not_zero c.read_answer-of_line.result c.in_default-of_line.not-Done
+
+-- an input that is refused
+pub returns-in_default-of_input-clause-told : goal.returns-in_default-of_input-clause-told
 unfolding playing_of
-returns-in_default-of_input c =
+returns-in_default-of_input-clause-told c =
     let call_by : Call = call_of c.args.line.now c.args.input.now c.args.edge c.args.left.now c.args.right.now in
     let state : PsDecoder = decoder_in c.args.carried c.args.sound.now in
-    let call : Call = call_by in
     let long : length c.args.sound.now ≡ sound_long = omega arith in
-    let resolved_is : c.resolve-resolved.result ≡ resolved (playing_of state) call = c.resolve-resolved.ensures in
+    let resolved_is : c.resolve-resolved.result ≡ resolved (playing_of state) call_by = c.resolve-resolved.ensures in
     let header : Header = c.in-Ok.header in
-    let says : (resolved (playing_of state) call).line ≡ Ok header = ap (λ (x : Resolved). x.line) (sym resolved_is) ∙ c.in-Ok.is in
+    let says : (resolved (playing_of state) call_by).line ≡ Ok header = ap (λ (x : Resolved). x.line) (sym resolved_is) ∙ c.in-Ok.is in
     let heard : read_answer header state.lines.configured ≡ Done = sym c.read_answer-of_line.ensures ∙ c.in-Done.is in
     let answered = c.input_answer-of_input in
-    lent_refused c.args.carried c.args.sound.now call answered.result c.refused-in_default-of_input.result long c.refused-in_default-of_input.ensures
-    (input_refused state call header answered.result says heard answered.ensures (λ e. c.in_default-of_input.not-Done (zero_done answered.result e)))
+    lent_refused c.args.carried c.args.sound.now call_by answered.result long
+    (input_refused state call_by header answered.result says heard answered.ensures (λ e. c.in_default-of_input.not-Done (zero_done answered.result e)))
 
--- and whose input is taken
+pub returns-in_default-of_input-clause-refused : goal.returns-in_default-of_input-clause-refused
+returns-in_default-of_input-clause-refused c = not_zero c.input_answer-of_input.result c.in_default-of_input.not-Done
+
+-- and one whose input is taken
 pub play-next-requires : goal.play-next-requires
 play-next-requires c =
     let long : length c.args.sound.now ≡ sound_long = omega arith in
     (long, taken_room _ _ _ _ (sym c.input_answer-of_input.ensures ∙ c.in-Done-of_input.is))
 
-pub returns : goal.returns
+pub returns-clause-told : goal.returns-clause-told
 unfolding playing_of
-returns c =
+returns-clause-told c =
     let call_by : Call = call_of c.args.line.now c.args.input.now c.args.edge c.args.left.now c.args.right.now in
     let state : PsDecoder = decoder_in c.args.carried c.args.sound.now in
     let call : Call = call_by in

@@ -1,5 +1,4 @@
 -- `ps_decoder::play` meets its contract: the stages from the state made ready. Assumes nothing.
-use borrow.Author.Rules.{rules}
 use mathlib.Core.List.{List}
 use mathlib.Core.Path.{◌≡◌, ap, subst, ◌∙◌}
 use lib.Ieee.{Float}

@@ -1,5 +1,4 @@
 -- `ps_decoder::chains` meets its contract: the table of rotations is the layout's. Assumes nothing.
-use borrow.Author.Rules.{rules}
 use mathlib.Core.Path.{◌≡◌, sym, ap, ◌∙◌}
 use Rattle.standard.specs.Channel.{rotations_of}
 use Rattle.ps_decoder.proofs.sound.chains.Goals as goal

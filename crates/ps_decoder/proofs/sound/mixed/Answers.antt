@@ -1,5 +1,4 @@
 -- `ps_decoder::mixed` meets its contract: the table of directions is there in a frame with phase alone. Assumes nothing.
-use borrow.Author.Rules.{rules}
 use mathlib.Core.Bool.{Bool, cond}
 use mathlib.Core.List.{[]}
 use mathlib.Core.Path.{◌≡◌, sym, ap, ◌∙◌}

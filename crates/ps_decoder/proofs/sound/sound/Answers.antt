@@ -1,5 +1,4 @@
 -- `ps_decoder::sound` meets its contract: the coefficients, then the stages. Assumes nothing.
-use borrow.Author.Rules.{rules}
 use mathlib.Core.Path.{◌≡◌, ap, ◌∙◌}
 use Prim.Native.Nat.{ℕ, ◌+◌, ◌%◌}
 use native.Mathlib.Nat.{mod-add-mod}

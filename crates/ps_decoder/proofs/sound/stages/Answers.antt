@@ -1,6 +1,5 @@
 -- `ps_decoder::stages` meets its contract: the stages after the coefficients, one after the other, each on its part of the lent sound. Assumes nothing.
 use native.Mathlib.Omega.{arith}
-use borrow.Author.Rules.{rules}
 use borrow.Author.Tests.{le-leb}
 use borrow.Rule.Slice.PartMut.{same_len_mid}
 use mathlib.Core.Bool.{Bool, true, cond}
@@ -11,7 +10,6 @@ use lib.Dec.{leb}
 use lib.Ieee.{Float}
 use lib.ListN.{length}
 use Rattle.answer.specs.declared.Answer.TheVariants.{Done, Buffers}
-use Rattle.answer.specs.Number.{number_of}
 use Rattle.borders.specs.Borders.{slots_of}
 use Rattle.lists.specs.Part.{part, put}
 use Rattle.lists.proofs.Parts.{part_length}
