@@ -189,10 +189,10 @@ fn matrix_at(rows: &[f64], at: usize) -> Matrix
 fn step(from: Matrix, to: Matrix) -> Matrix
     ensures { result ≡ step_of from to }
 {
-    let a = to.h11.sub(from.h11);
-    let b = to.h12.sub(from.h12);
-    let c = to.h21.sub(from.h21);
-    let d = to.h22.sub(from.h22);
+    let a = to.h11 - from.h11;
+    let b = to.h12 - from.h12;
+    let c = to.h21 - from.h21;
+    let d = to.h22 - from.h22;
     Matrix {
         h11: a,
         h12: b,
