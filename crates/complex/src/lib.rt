@@ -4,40 +4,54 @@
 ghost use Rattle.std.specs.Prelude.{◌≡◌};
 ghost use Rattle.complex.specs.Operations.{product, sum, difference, conjugate, scaled, squared_magnitude};
 
+use std::ops::{Add, Mul, Sub};
+
 #[derive(Clone, Copy)]
 pub struct Complex {
     pub re: f64,
     pub im: f64,
 }
 
-impl Complex {
-    pub fn mul(self, other: Complex) -> Complex
-        ensures { result ≡ product self other }
-    {
-        Complex {
-            re: self.re * other.re - self.im * other.im,
-            im: self.re * other.im + self.im * other.re,
-        }
-    }
+impl Add for Complex {
+    type Output = Complex;
 
-    pub fn add(self, other: Complex) -> Complex
-        ensures { result ≡ sum self other }
-    {
+    ghost add_gives = { λ x y r. r ≡ sum x y };
+
+    fn add(self, other: Complex) -> Complex {
         Complex {
             re: self.re + other.re,
             im: self.im + other.im,
         }
     }
+}
 
-    pub fn sub(self, other: Complex) -> Complex
-        ensures { result ≡ difference self other }
-    {
+impl Sub for Complex {
+    type Output = Complex;
+
+    ghost sub_gives = { λ x y r. r ≡ difference x y };
+
+    fn sub(self, other: Complex) -> Complex {
         Complex {
             re: self.re - other.re,
             im: self.im - other.im,
         }
     }
+}
 
+impl Mul for Complex {
+    type Output = Complex;
+
+    ghost mul_gives = { λ x y r. r ≡ product x y };
+
+    fn mul(self, other: Complex) -> Complex {
+        Complex {
+            re: self.re * other.re - self.im * other.im,
+            im: self.re * other.im + self.im * other.re,
+        }
+    }
+}
+
+impl Complex {
     pub fn conj(self) -> Complex
         ensures { result ≡ conjugate self }
     {

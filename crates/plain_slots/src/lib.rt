@@ -85,7 +85,7 @@ fn side(marked: bool, runs: &[f64], first: usize, second: usize, s: Complex, d: 
 {
     let a = taken(marked, cell(runs, first, 32));
     let b = taken(marked, cell(runs, second, 32));
-    a.mul(s).add(b.mul(d))
+    a * s + b * d
 }
 
 // Left and right of slot n, of every channel, by the coefficients of each band, four runs of 32 slots. Nothing changes where n is above 31, or a list is too
@@ -139,7 +139,7 @@ fn added(hybrid: &[f64], from: usize, count: usize) -> Complex
 {
     let mut sum = Complex { re: 0.0, im: 0.0 };
     for i in 0..count {
-        sum = sum.add(cell(hybrid, 2 * (from + i), 1));
+        sum = sum + cell(hybrid, 2 * (from + i), 1);
     }
     sum
 }

@@ -86,12 +86,12 @@ fn rotated(h: Matrix, opd: Complex, ipd: Complex) -> Matrix
     ensures { result ≡ rotated_by opd (product opd (conjugate ipd)) h }
 {
     let back = ipd.conj();
-    let second = opd.mul(back);
+    let second = opd * back;
     Matrix {
-        h11: h.h11.mul(opd),
-        h12: h.h12.mul(second),
-        h21: h.h21.mul(opd),
-        h22: h.h22.mul(second),
+        h11: h.h11 * opd,
+        h12: h.h12 * second,
+        h21: h.h21 * opd,
+        h22: h.h22 * second,
     }
 }
 

@@ -159,10 +159,10 @@ fn step(from: Matrix, to: Matrix) -> Matrix
     ensures { result ≡ step_of from to }
 {
     Matrix {
-        h11: to.h11.sub(from.h11),
-        h12: to.h12.sub(from.h12),
-        h21: to.h21.sub(from.h21),
-        h22: to.h22.sub(from.h22),
+        h11: to.h11 - from.h11,
+        h12: to.h12 - from.h12,
+        h21: to.h21 - from.h21,
+        h22: to.h22 - from.h22,
     }
 }
 
