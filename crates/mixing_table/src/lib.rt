@@ -1,4 +1,4 @@
-// The mixing coefficients (§8.6.4.6.2), as whole numbers of 2^-52. Made once a frame and lent to whoever looks things up in it.
+// The mixing coefficients (§8.6.4.6.2), as whole numbers of 2^-52.
 #![tactic(auto)]
 
 mod values;
@@ -16,10 +16,10 @@ pub struct Coefficients {
     pub h22: f64,
 }
 
-pub fn table() -> [i64; 2944]
-    ensures { result ≡ mixing }
+pub fn table() -> &'static [i64; 2944]
+    ensures { result.now ≡ mixing }
 {
-    values::MIXING
+    &values::MIXING
 }
 
 // The place of a level among the 46: 15 coarse ones, then 31 fine ones.

@@ -1,6 +1,6 @@
 // Whole numbers of 2^-52. Written by tools/write-tables.
 // h11, h12, h21, h22 by procedure, level and coherence.
-pub const MIXING: [i64; 2944] = [
+pub static MIXING: [i64; 2944] = [
     357593137664123,
     6359005138793243,
     0,

@@ -1,4 +1,4 @@
-// The smoothed phase of three indices (§8.6.4.6.3.2), as whole numbers of 2^-52. Made once a frame and lent to whoever looks things up in it.
+// The smoothed phase of three indices (§8.6.4.6.3.2), as whole numbers of 2^-52.
 #![tactic(auto)]
 
 mod values;
@@ -9,10 +9,10 @@ ghost use Rattle.phase_table.specs.Directions.{direction_place, direction_at};
 
 use complex::Complex;
 
-pub fn table() -> [i64; 1024]
-    ensures { result ≡ phase }
+pub fn table() -> &'static [i64; 1024]
+    ensures { result.now ≡ phase }
 {
-    values::PHASE
+    &values::PHASE
 }
 
 // Where the pair of three indices starts.

@@ -1,6 +1,6 @@
 // Whole numbers of 2^-52. Written by tools/write-tables.
 // Cosine and sine by the indices oldest, previous, current.
-pub const PHASE: [i64; 1024] = [
+pub static PHASE: [i64; 1024] = [
     4503599627370496,
     0,
     4051713691970374,

@@ -6,20 +6,20 @@ mod values;
 ghost use Rattle.std.specs.Prelude.{◌≡◌};
 ghost use Rattle.root_table.specs.Values.{root8, root16, root24};
 
-pub fn roots_8() -> [i64; 16]
-    ensures { result ≡ root8 }
+pub fn roots_8() -> &'static [i64; 16]
+    ensures { result.now ≡ root8 }
 {
-    values::ROOT_8
+    &values::ROOT_8
 }
 
-pub fn roots_16() -> [i64; 32]
-    ensures { result ≡ root16 }
+pub fn roots_16() -> &'static [i64; 32]
+    ensures { result.now ≡ root16 }
 {
-    values::ROOT_16
+    &values::ROOT_16
 }
 
-pub fn roots_24() -> [i64; 48]
-    ensures { result ≡ root24 }
+pub fn roots_24() -> &'static [i64; 48]
+    ensures { result.now ≡ root24 }
 {
-    values::ROOT_24
+    &values::ROOT_24
 }

@@ -1,6 +1,6 @@
 // Whole numbers of 2^-52. Written by tools/write-tables.
 // Cosine and sine of i / 8 of a turn.
-pub const ROOT_8: [i64; 16] = [
+pub static ROOT_8: [i64; 16] = [
     4503599627370496,
     0,
     3184525836262886,
@@ -20,7 +20,7 @@ pub const ROOT_8: [i64; 16] = [
 ];
 
 // Cosine and sine of i / 16 of a turn.
-pub const ROOT_16: [i64; 32] = [
+pub static ROOT_16: [i64; 32] = [
     4503599627370496,
     0,
     4160783518353059,
@@ -56,7 +56,7 @@ pub const ROOT_16: [i64; 32] = [
 ];
 
 // Cosine and sine of i / 24 of a turn.
-pub const ROOT_24: [i64; 48] = [
+pub static ROOT_24: [i64; 48] = [
     4503599627370496,
     0,
     4350143191342986,

@@ -6,14 +6,14 @@ mod values;
 ghost use Rattle.std.specs.Prelude.{◌≡◌};
 ghost use Rattle.rotation_table.specs.Values.{rotation20, rotation34};
 
-pub fn rotations_20() -> [i64; 240]
-    ensures { result ≡ rotation20 }
+pub fn rotations_20() -> &'static [i64; 240]
+    ensures { result.now ≡ rotation20 }
 {
-    values::ROTATION_20
+    &values::ROTATION_20
 }
 
-pub fn rotations_34() -> [i64; 400]
-    ensures { result ≡ rotation34 }
+pub fn rotations_34() -> &'static [i64; 400]
+    ensures { result.now ≡ rotation34 }
 {
-    values::ROTATION_34
+    &values::ROTATION_34
 }

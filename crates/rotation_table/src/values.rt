@@ -1,6 +1,6 @@
 // Whole numbers of 2^-52. Written by tools/write-tables.
 // φ_fract and Q of three links, of 30 channels (Table 8.40).
-pub const ROTATION_20: [i64; 240] = [
+pub static ROTATION_20: [i64; 240] = [
     4036544905360313,
     1997176714930697,
     3937983929313411,
@@ -244,7 +244,7 @@ pub const ROTATION_20: [i64; 240] = [
 ];
 
 // φ_fract and Q of three links, of 50 channels (Table 8.41).
-pub const ROTATION_34: [i64; 400] = [
+pub static ROTATION_34: [i64; 400] = [
     4480145518949209,
     -459026941138528,
     4475093038696664,
