@@ -39,7 +39,7 @@ fn add_four(start: Complex, desks: &[f64], at: usize) -> Complex
     let b = lane(desks, at + 1);
     let c = lane(desks, at + 2);
     let d = lane(desks, at + 3);
-    start.add(a).add(b).add(c).add(d)
+    start + a + b + c + d
 }
 
 // The channels of the desks from `first` to before `last`, added to a sum of those below, whichever of them it begins at.
@@ -63,7 +63,7 @@ fn add_channels(start: Complex, desks: &[f64], place: usize, from: usize, end: u
 {
     let mut sum = start;
     for k in from..end {
-        sum = sum.add(side(desks, place, k));
+        sum = sum + side(desks, place, k);
     }
     sum
 }

@@ -1,10 +1,8 @@
 // The sound of an accepted frame, stage by stage, from a state that is ready for it.
 ghost use Rattle.std.specs.Prelude.{◌≡◌, ◌+◌, ◌*◌, ◌≤◌, length};
 ghost use Rattle.borders.specs.Borders.{slots_of};
-ghost use Rattle.ps_allpass_channels.specs.Channels as chains;
 ghost use Rattle.ps_state.specs.State.{decoder_in, sound_long};
 ghost use Rattle.ps_stereo_borders.specs.Borders as borders;
-ghost use Rattle.standard.specs.Channel.{rotations_of};
 ghost use Rattle.ps_decoder.specs.Sound.{directions_of, Staged, Sounded};
 
 use answer::Answer;
@@ -27,53 +25,12 @@ fn mixed(
     ensures phases { phases.new ≡ borders.phases_after layout header indices (directions_of header) matrices.old phases.old rows.old }
     ensures rows { rows.new ≡ borders.rows_after layout header indices (directions_of header) matrices.old phases.old rows.old }
 {
-    if header.phase {
-        let directions = phase_table::table();
-        ps_stereo_borders::coefficients(
-            layout,
-            header,
-            indices,
-            &directions,
-            matrices,
-            phases,
-            rows,
-        );
+    let directions: &[i64] = if header.phase {
+        phase_table::table()
     } else {
-        let none = [0i64; 0];
-        ps_stereo_borders::coefficients(layout, header, indices, &none, matrices, phases, rows);
-    }
-}
-
-// The all-pass channels, with the layout's table of rotations.
-fn chains(
-    layout: Layout,
-    timing: Timing,
-    samples: &[f64],
-    gains: &[f64],
-    rows: &[f64],
-    input: &[f64],
-    delays: &mut [f64],
-    left: &mut [f64],
-    right: &mut [f64],
-)
-    ensures left { left.new ≡ chains.left_after layout timing (rotations_of layout) samples.now gains.now rows.now input.now delays.old left.old right.old }
-    ensures right { right.new ≡ chains.right_after layout timing (rotations_of layout) samples.now gains.now rows.now input.now delays.old left.old right.old }
-    ensures delays { delays.new ≡ chains.delays_after layout timing (rotations_of layout) samples.now gains.now rows.now input.now delays.old left.old right.old }
-{
-    match layout {
-        Layout::Bands20 => {
-            let table = rotation_table::rotations_20();
-            ps_allpass_channels::allpass_channels(
-                layout, timing, &table, samples, gains, rows, input, delays, left, right,
-            );
-        }
-        Layout::Bands34 => {
-            let table = rotation_table::rotations_34();
-            ps_allpass_channels::allpass_channels(
-                layout, timing, &table, samples, gains, rows, input, delays, left, right,
-            );
-        }
-    }
+        &[]
+    };
+    ps_stereo_borders::coefficients(layout, header, indices, directions, matrices, phases, rows);
 }
 
 // The stages after the coefficients: the samples and the ducking factors, then both kinds of channels into left and right. They stand apart from `sound`,
@@ -113,9 +70,10 @@ fn stages(
         timing.slots,
         &mut gains,
     );
-    chains(
+    ps_allpass_channels::allpass_channels(
         layout,
         timing,
+        ps_decorr_allpass::rotations(layout),
         &samples,
         &gains,
         rows,

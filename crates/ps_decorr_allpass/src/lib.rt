@@ -7,12 +7,22 @@ ghost use Rattle.std.specs.Float.Ieee.{lt};
 ghost use Rattle.fixed.specs.Real.{pair_at};
 ghost use Rattle.standard.specs.Numbers as numbers;
 ghost use Rattle.standard.specs.Channel as channel;
-ghost use Rattle.standard.specs.Channel.{chain_from};
+ghost use Rattle.standard.specs.Channel.{chain_from, rotations_of};
 ghost use Rattle.ps_decorr_allpass.specs.Memory.{silenced_from};
 
 use complex::Complex;
 use layout::Layout;
 use standard::{Chain, Link};
+
+// The rotations of a layout's channels, eight numbers to each.
+pub fn rotations(layout: Layout) -> &'static [i64]
+    ensures { result.now ≡ rotations_of layout }
+{
+    match layout {
+        Layout::Bands20 => rotation_table::rotations_20(),
+        Layout::Bands34 => rotation_table::rotations_34(),
+    }
+}
 
 // The pair at a place of channel k's eight numbers, 0 past the table's end.
 fn rotation(table: &[i64], k: usize, place: usize) -> Complex

@@ -29,11 +29,11 @@ pub fn waves(prototype: Prototype, out: &mut [f64; 48])
     ensures { Waves prototype out.new }
 {
     match prototype {
-        Prototype::EighthsOfBand0 => floats(&root_table::roots_16(), 16, out),
-        Prototype::Halves => floats(&root_table::roots_8(), 8, out),
-        Prototype::Twelfths => floats(&root_table::roots_24(), 24, out),
-        Prototype::EighthsOfBand1 => floats(&root_table::roots_16(), 16, out),
-        Prototype::Quarters => floats(&root_table::roots_8(), 8, out),
+        Prototype::EighthsOfBand0 => floats(root_table::roots_16(), 16, out),
+        Prototype::Halves => floats(root_table::roots_8(), 8, out),
+        Prototype::Twelfths => floats(root_table::roots_24(), 24, out),
+        Prototype::EighthsOfBand1 => floats(root_table::roots_16(), 16, out),
+        Prototype::Quarters => floats(root_table::roots_8(), 8, out),
     }
 }
 

@@ -36,7 +36,7 @@ fn modes_of(header: Header) -> Modes
     }
 }
 
-// The envelopes, one after the other. The table of coefficients is made once.
+// The envelopes, one after the other.
 fn envelopes(
     layout: Layout,
     header: Header,
@@ -54,7 +54,7 @@ fn envelopes(
     for e in 0..count {
         let cues = ps_stereo_cues::cues(indices, header.config, layout, e);
         ps_stereo_envelope::envelope(
-            &coefficients,
+            coefficients,
             directions,
             layout,
             modes,

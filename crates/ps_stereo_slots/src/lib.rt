@@ -171,10 +171,10 @@ fn stepped(from: Matrix, step: Matrix, t: f64) -> Matrix
     ensures { result ≡ stepped from step t }
 {
     Matrix {
-        h11: from.h11.add(step.h11.scale(t)),
-        h12: from.h12.add(step.h12.scale(t)),
-        h21: from.h21.add(step.h21.scale(t)),
-        h22: from.h22.add(step.h22.scale(t)),
+        h11: from.h11 + step.h11.scale(t),
+        h12: from.h12 + step.h12.scale(t),
+        h21: from.h21 + step.h21.scale(t),
+        h22: from.h22 + step.h22.scale(t),
     }
 }
 

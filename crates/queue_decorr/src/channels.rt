@@ -36,9 +36,7 @@ fn chain(numbers: &mut [f64], constants: Chain, x: Complex) -> Complex
     ensures answer { result ≡ third_output constants (chain_in numbers.old) }
     ensures numbers { numbers.new ≡ chain_numbers (channel_after constants (chain_in numbers.old) x) }
 {
-    let u = constants
-        .fractional
-        .mul(queue::delay(&mut numbers[0..4], x));
+    let u = constants.fractional * queue::delay(&mut numbers[0..4], x);
     let v = queue::link(&mut numbers[4..10], u, constants.first);
     let w = queue::link(&mut numbers[10..18], v, constants.second);
     queue::link(&mut numbers[18..28], w, constants.third)

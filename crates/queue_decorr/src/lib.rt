@@ -9,7 +9,6 @@ mod queue;
 ghost use Rattle.std.specs.Prelude.{◌≡◌, min};
 ghost use Rattle.queue_decorr.specs.State.{fresh_queues, switched_queues, queues_ready, channel_queues};
 ghost use Rattle.queue_decorr.specs.Frame.{state_after, out_after};
-ghost use Rattle.queue_decorr.specs.Slots.{Lent, Slotted};
 
 use layout::Layout;
 
@@ -76,43 +75,6 @@ pub fn channel_queues(state: QueueDecorr, k: usize, out: &mut [f64])
     }
 }
 
-// The slots with the layout's table of rotations.
-fn through(
-    layout: Layout,
-    slots: usize,
-    split: &[f64],
-    input: &[f64],
-    gains: &[f64],
-    queues: &mut [f64],
-    out: &mut [f64],
-)
-    requires { Lent layout split.now input.now gains.now queues.old slots out.old }
-    ensures { Slotted layout split.now input.now gains.now queues.old slots out.old queues.new out.new }
-{
-    match layout {
-        Layout::Bands20 => channels::slots(
-            layout,
-            slots,
-            &rotation_table::rotations_20(),
-            split,
-            input,
-            gains,
-            queues,
-            out,
-        ),
-        Layout::Bands34 => channels::slots(
-            layout,
-            slots,
-            &rotation_table::rotations_34(),
-            split,
-            input,
-            gains,
-            queues,
-            out,
-        ),
-    }
-}
-
 // A frame of at most 32 slots from a state that is ready for it. The samples are those of the split bands' channels, a run of 32 slots for each, and the QMF
 // rows; the de-correlated samples go to rows of 91 complex numbers, channel by channel re and im, one row for each slot. Nothing changes where a list is too
 // short.
@@ -138,7 +100,16 @@ pub fn decorrelate(
     let mut gains = [0.0; 1088];
     ps_decorr_transient::duck(layout, &mut detectors, split, input, count, &mut gains);
     let mut queues = state.queues;
-    through(layout, count, split, input, &gains, &mut queues, out);
+    channels::slots(
+        layout,
+        count,
+        ps_decorr_allpass::rotations(layout),
+        split,
+        input,
+        &gains,
+        &mut queues,
+        out,
+    );
     QueueDecorr {
         queues,
         detectors,

@@ -53,8 +53,8 @@ pub fn link(queue: &mut [f64], u: Complex, constants: Link) -> Complex
     ensures answer { result ≡ link_output u constants (oldest_of queue.old) }
     ensures queue { queue.new ≡ shifted (link_state u constants (oldest_of queue.old)) queue.old }
 {
-    let turned = constants.rotation.mul(oldest(queue));
-    let state = u.add(turned.scale(constants.feedback));
+    let turned = constants.rotation * oldest(queue);
+    let state = u + turned.scale(constants.feedback);
     shift(queue, state);
-    turned.sub(state.scale(constants.feedback))
+    turned - state.scale(constants.feedback)
 }

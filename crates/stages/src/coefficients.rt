@@ -47,14 +47,13 @@ pub fn in_frame(
     matrices: &mut [f64],
     runs: &mut [f64; RUNS],
 ) -> [i8; 136] {
-    let directions = phase_table::table();
     let mut phases = before;
     let mut rows = [0.0; limits::MATRICES];
     ps_stereo_borders::coefficients(
         layout,
         header,
         indices,
-        &directions,
+        phase_table::table(),
         matrices,
         &mut phases,
         &mut rows,

@@ -52,13 +52,13 @@ returns-then-input-count c =
     ] in
     record { state = same_state a.state _ _ _ _ short; out = same_out a.state _ _ _ _ short }
 
-pub through-requires : goal.through-requires
-through-requires c =
+pub slots-requires : goal.slots-requires
+slots-requires c =
     let a = c.args in
     let count = c.min-count.ensures in
     let room = room_for a.state a.split.now a.input.now a.out.now a.slots c.well_formed.0.1.1.1.1.0.1.0.1 c.well_formed.0.1.1.1.1.1.0.1.0.1
     (rw count at c.if-input-count.false) (rw c.unsplit_from.ensures at c.if-split-unsplit_from.false) (rw count at c.if-out-count.false) in
-    rw count (frame_lent a.state a.split.now a.input.now a.out.now blank_list (min a.slots 32) room c.duck.new.gains (rw (count, twice a.slots) at c.duck.ensures.gains))
+    (c.rotations.ensures, rw count (frame_lent a.state a.split.now a.input.now a.out.now blank_list (min a.slots 32) room c.duck.new.gains (rw (count, twice a.slots) at c.duck.ensures.gains)))
 
 pub returns : goal.returns
 returns c =
@@ -68,7 +68,7 @@ returns c =
     (rw count at c.if-input-count.false) (rw c.unsplit_from.ensures at c.if-split-unsplit_from.false) (rw count at c.if-out-count.false) in
     let gains_are = rw (count, twice a.slots) at c.duck.ensures.gains in
     let detectors_are = rw (count, twice a.slots) at c.duck.ensures.detectors in
-    let slotted = rw count at c.through.ensures in
+    let slotted = rw count at c.slots.ensures in
     record {
       state = state_is a.state a.split.now a.input.now a.out.now blank_list (min a.slots 32) room c.duck.new.gains c.duck.new.detectors _ _ gains_are detectors_are slotted;
       out = out_is a.state a.split.now a.input.now a.out.now blank_list (min a.slots 32) room c.duck.new.gains c.duck.new.detectors _ _ gains_are detectors_are slotted;
