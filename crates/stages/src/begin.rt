@@ -137,10 +137,7 @@ pub fn begin(
     requires { (length state.old ≡ 4325) × (length runs.old ≡ 8704) }
 {
     let small = ps_memory::load(&state[0..ps_memory::NUMBERS]);
-    let lines = small.lines;
-    let resolved = ps_data::resolve(lines, line);
-    let read = resolved.line;
-    let Ok(header) = read else {
+    let Ok(resolved) = ps_data::resolve(small.lines, line) else {
         return Begun {
             read: false,
             asked: 0,
@@ -150,6 +147,15 @@ pub fn begin(
     Begun {
         read: true,
         asked: small.asked,
-        slots: begin_read(rt, small, header, resolved, edge, wanted, state, runs),
+        slots: begin_read(
+            rt,
+            small,
+            resolved.header,
+            resolved,
+            edge,
+            wanted,
+            state,
+            runs,
+        ),
     }
 }

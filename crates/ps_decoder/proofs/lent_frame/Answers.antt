@@ -7,12 +7,11 @@ use mathlib.Core.Path.{◌≡◌, sym, ap, ◌∙◌}
 use lib.ListN.{length, length-map}
 use Rattle.answer.specs.declared.Answer.TheVariants.{Done}
 use Rattle.answer.proofs.Refused.{zero_done}
-use Rattle.calls.specs.Call.{Call, resolved}
+use Rattle.calls.specs.Call.{Call, read, resolved}
 use Rattle.calls.proofs.Accepts.{taken_room}
-use Rattle.cue.specs.declared.Header.{Header}
-use Rattle.cue.specs.Line as line
+use Rattle.cue.specs.Line as cue
 use Rattle.ps_data.specs.declared.Resolved.{Resolved}
-use Rattle.ps_data.specs.Indices.{read_answer}
+use Rattle.ps_data.specs.Indices.{read_answer, left_by}
 use Rattle.ps_state.specs.declared.PsDecoder.{PsDecoder}
 use Rattle.ps_state.specs.State.{sound_long, decoder_in, playing_of}
 use Rattle.ps_state.specs.Shape.{Shaped}
@@ -35,11 +34,10 @@ returns-in_default c =
     let state : PsDecoder = decoder_in c.args.carried c.args.sound.now in
     let call : Call = call_by in
     let long : length c.args.sound.now ≡ sound_long = omega arith in
-    let resolved_is : c.resolve-resolved.result ≡ resolved (playing_of state) call = c.resolve-resolved.ensures in
     let refused = c.in_default.is in
-    let answered = c.answer_of.ensures ∙ ap line.answer_of refused in
+    let answered = c.answer_of.ensures ∙ ap cue.answer_of refused in
     lent_refused c.args.carried c.args.sound.now call _ c.refused-in_default.result long (c.refused-in_default.ensures.0 ∙ answered, c.refused-in_default.ensures.1)
-    (line_refused state call _ (ap (λ (x : Resolved). x.line) (sym resolved_is) ∙ refused))
+    (line_refused state call _ (sym c.resolve-read.ensures ∙ refused))
 
 pub returns-in_default-of_line : goal.returns-in_default-of_line
 unfolding playing_of
@@ -48,12 +46,11 @@ returns-in_default-of_line c =
     let state : PsDecoder = decoder_in c.args.carried c.args.sound.now in
     let call : Call = call_by in
     let long : length c.args.sound.now ≡ sound_long = omega arith in
-    let resolved_is : c.resolve-resolved.result ≡ resolved (playing_of state) call = c.resolve-resolved.ensures in
-    let header : Header = c.in-Ok.header in
-    let says : (resolved (playing_of state) call).line ≡ Ok header = ap (λ (x : Resolved). x.line) (sym resolved_is) ∙ c.in-Ok.is in
-    let read = c.read_answer-of_line in
-    lent_refused c.args.carried c.args.sound.now call read.result c.refused-in_default-of_line.result long c.refused-in_default-of_line.ensures
-    (quiet state call header read.result says read.ensures (λ e. c.in_default-of_line.not-Done (zero_done read.result e)))
+    let line : Resolved = c.in-Ok.resolved in
+    let says : read (playing_of state) call ≡ Ok line = sym c.resolve-read.ensures ∙ c.in-Ok.is in
+    let quieted = c.read_answer-of_line in
+    lent_refused c.args.carried c.args.sound.now call quieted.result c.refused-in_default-of_line.result long c.refused-in_default-of_line.ensures
+    (quiet state call line quieted.result says quieted.ensures (λ e. c.in_default-of_line.not-Done (zero_done quieted.result e)))
 
 pub returns-in_default-of_input : goal.returns-in_default-of_input
 unfolding playing_of
@@ -62,13 +59,12 @@ returns-in_default-of_input c =
     let state : PsDecoder = decoder_in c.args.carried c.args.sound.now in
     let call : Call = call_by in
     let long : length c.args.sound.now ≡ sound_long = omega arith in
-    let resolved_is : c.resolve-resolved.result ≡ resolved (playing_of state) call = c.resolve-resolved.ensures in
-    let header : Header = c.in-Ok.header in
-    let says : (resolved (playing_of state) call).line ≡ Ok header = ap (λ (x : Resolved). x.line) (sym resolved_is) ∙ c.in-Ok.is in
-    let heard : read_answer header state.lines.configured ≡ Done = sym c.read_answer-of_line.ensures ∙ c.in-Done.is in
+    let line : Resolved = c.in-Ok.resolved in
+    let says : read (playing_of state) call ≡ Ok line = sym c.resolve-read.ensures ∙ c.in-Ok.is in
+    let heard : read_answer line.header state.lines.configured ≡ Done = sym c.read_answer-of_line.ensures ∙ c.in-Done.is in
     let answered = c.input_answer-of_input in
     lent_refused c.args.carried c.args.sound.now call answered.result c.refused-in_default-of_input.result long c.refused-in_default-of_input.ensures
-    (input_refused state call header answered.result says heard answered.ensures (λ e. c.in_default-of_input.not-Done (zero_done answered.result e)))
+    (input_refused state call line answered.result says heard answered.ensures (λ e. c.in_default-of_input.not-Done (zero_done answered.result e)))
 
 -- and whose input is taken
 pub play-next-requires : goal.play-next-requires
@@ -84,12 +80,12 @@ returns c =
     let call : Call = call_by in
     let long : length c.args.sound.now ≡ sound_long = omega arith in
     let shaped : Shaped state = shaped_in c.args.carried c.args.sound.now long c.well_formed.0.1.1.1.1.1.1.0.1.0.1 in
-    let resolved_is : c.resolve-resolved.result ≡ resolved (playing_of state) call = c.resolve-resolved.ensures in
-    let header : Header = c.in-Ok.header in
-    let says : (resolved (playing_of state) call).line ≡ Ok header = ap (λ (x : Resolved). x.line) (sym resolved_is) ∙ c.in-Ok.is in
-    let heard : read_answer header state.lines.configured ≡ Done = sym c.read_answer-of_line.ensures ∙ c.in-Done.is in
+    let line : Resolved = c.in-Ok.resolved in
+    let says : read (playing_of state) call ≡ Ok line = sym c.resolve-read.ensures ∙ c.in-Ok.is in
+    let heard : read_answer line.header state.lines.configured ≡ Done = sym c.read_answer-of_line.ensures ∙ c.in-Done.is in
     let taken = sym c.input_answer-of_input.ensures ∙ c.in-Done-of_input.is in
     let sounded = c.play-next.ensures.sounded in
+    let resolved_is : line ≡ resolved (playing_of state) call = ap (left_by state.lines) (sym says) in
     lent_told c.args.carried c.args.sound.now call _ _ _ _ long c.play-next.ensures.long
-    (accepted state call header says heard taken _ _ _ shaped
+    (accepted state call line says heard taken _ _ _ shaped
     (rw (← resolved_is) sounded.state) (rw (← resolved_is) sounded.left_rows) (rw (← resolved_is) sounded.right_rows))
