@@ -14,10 +14,10 @@ use Rattle.answer.specs.declared.Answer.{Answer}
 use Rattle.answer.specs.declared.Answer.TheVariants.{Done, Quiet, Buffers, Sample}
 use Rattle.answer.specs.Number.{number_of}
 use Rattle.answer.proofs.Refused.{zero_done}
-use Rattle.cue.specs.declared.Header.{Header}
+use Rattle.ps_data.specs.declared.Resolved.{Resolved}
 use Rattle.cue.proofs.Refusals as cue
-use Rattle.ps_data.proofs.Laws.{line_kept}
-use Rattle.calls.specs.Call.{Call, Playing, buffers_fit, samples_fit, input_answer, resolved, answer_of, answer}
+use Rattle.ps_data.proofs.Laws.{refusal_kept}
+use Rattle.calls.specs.Call.{Call, Playing, buffers_fit, samples_fit, input_answer, read, answer_of, answer}
 
 -- the buffers and the samples of a call fit
 pub record Fitting (s : Playing) (c : Call) : Type 0 where
@@ -25,12 +25,12 @@ pub record Fitting (s : Playing) (c : Call) : Type 0 where
   pub samples : samples_fit s.slots c.input ≡ true
 
 module _ (s : Playing) (c : Call) where
-  pub refused_not_done : (a : Answer) → (resolved s c).line ≡ Err a → number_of a ≢ 0
-  refused_not_done a e = cue.refused_not_done c.line a (sym (line_kept s.lines c.line) ∙ e)
+  pub refused_not_done : (a : Answer) → read s c ≡ Err a → number_of a ≢ 0
+  refused_not_done a e = cue.refused_not_done c.line a (refusal_kept s.lines c.line a e)
 
   pub accepted_fits : number_of (answer s c) ≡ 0 → Fitting s c
   unfolding answer_of input_answer
-  accepted_fits accepted = by (resolved s c).line refl accepted
+  accepted_fits accepted = by (read s c) refl accepted
     where
       input : (a b : Bool) → buffers_fit s.slots (length c.input) (length c.left) (length c.right) ≡ a → samples_fit s.slots c.input ≡ b
           → cond a (cond b Done Sample) Buffers ≡ Done → Fitting s c
@@ -38,12 +38,12 @@ module _ (s : Playing) (c : Call) where
       input true false p q e = let six : number_of Sample ≡ number_of Done = ap number_of e in absurd (omega arith)
       input false b p q e = let five : number_of Buffers ≡ number_of Done = ap number_of e in absurd (omega arith)
 
-      read : (t : Bool) → number_of (cond t (input_answer s.slots c.input (length c.left) (length c.right)) Quiet) ≡ 0 → Fitting s c
-      read true z = input _ _ refl refl (zero_done (input_answer s.slots c.input (length c.left) (length c.right)) z)
-      read false z = absurd (omega arith)
+      heard : (t : Bool) → number_of (cond t (input_answer s.slots c.input (length c.left) (length c.right)) Quiet) ≡ 0 → Fitting s c
+      heard true z = input _ _ refl refl (zero_done (input_answer s.slots c.input (length c.left) (length c.right)) z)
+      heard false z = absurd (omega arith)
 
-      by : (line : Result Header Answer) → (resolved s c).line ≡ line → number_of (answer_of s c line) ≡ 0 → Fitting s c
-      by (Ok h) is z = read (h.cued || s.lines.configured) z
+      by : (line : Result Resolved Answer) → read s c ≡ line → number_of (answer_of s c line) ≡ 0 → Fitting s c
+      by (Ok r) is z = heard (r.header.cued || s.lines.configured) z
       by (Err a) is z = absurd (refused_not_done a is z)
 
 -- an input that is taken has the rows that a frame reads

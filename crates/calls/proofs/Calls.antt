@@ -10,7 +10,7 @@ use Rattle.layout.specs.declared.Layout.{Layout}
 use Rattle.layout.specs.Numbers.{channels_of, split_of}
 use Rattle.planar.specs.Frame.{qmf_at, qmf_rows}
 use Rattle.ps_data.specs.declared.PsLines.{PsLines}
-use Rattle.ps_data.specs.Indices.{resolve_line}
+use Rattle.ps_data.specs.Indices.{resolve_line, left_by}
 use Rattle.standard.specs.Core.{Head, Frame, Core, same_layout, ready, next}
 use Rattle.standard.specs.Hybrid.{hybrid, synthesised}
 use Rattle.standard.proofs.Runs.{ready_layout}
@@ -102,7 +102,7 @@ module _ (s t : Playing) (c : Call) (near : Near s t) where
   near_afterwards =
       record {
         slots = near.slots;
-        lines = ap (λ (x : PsLines). (resolve_line x c.line).lines) near.lines;
+        lines = ap (λ (x : PsLines). (left_by x (resolve_line x c.line)).lines) near.lines;
         past = λ p u. rw near.slots (past_alike 6 (past_ready s c p) (past_ready t c p) (λ n. qmf_at c.input n p) t.slots (near_past p (of_layout p u)));
         core = near_next_core;
       }

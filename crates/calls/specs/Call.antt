@@ -8,14 +8,13 @@ use Rattle.borders.specs.Borders.{slots_of, borders_of}
 use Rattle.complex.specs.declared.Complex.{Complex}
 use Rattle.cue.specs.declared.Header.{Header}
 use Rattle.cue.specs.Fields.{fine_of, rb_of}
-use Rattle.cue.specs.Line.{no_header}
 use Rattle.layout.specs.declared.Layout.{Layout}
 use Rattle.limits.specs.Limits as limits
 use Rattle.lists.specs.All.{all}
 use Rattle.planar.specs.Frame.{qmf_at, qmf_rows}
 use Rattle.ps_data.specs.declared.PsLines.{PsLines}
 use Rattle.ps_data.specs.declared.Resolved.{Resolved}
-use Rattle.ps_data.specs.Indices.{layout_in, fresh_lines, resolve_line}
+use Rattle.ps_data.specs.Indices.{layout_in, fresh_lines, resolve_line, left_by}
 use Rattle.standard.specs.declared.Modes.{Modes}
 use Rattle.standard.specs.Numbers.{whole}
 use Rattle.standard.specs.Channel.{back, past_at}
@@ -65,31 +64,30 @@ unfoldable pub input_answer : ℕ → List Float → ℕ → ℕ → Answer
 input_answer slots input left right = cond (buffers_fit slots (length input) left right) (cond (samples_fit slots input) Done Sample) Buffers
 
 module _ (s : Playing) (c : Call) where
-  -- what the line says, with the indices resolved
+  -- what the line says, with the indices resolved, or its refusal; and what it leaves
+  abbrev pub read : Result Resolved Answer
+  read = resolve_line s.lines c.line
+
   abbrev pub resolved : Resolved
-  resolved = resolve_line s.lines c.line
+  resolved = left_by s.lines read
 
   -- document 01's order: the line, quiet, the input
-  unfoldable pub answer_of : Result Header Answer → Answer
+  unfoldable pub answer_of : Result Resolved Answer → Answer
   answer_of (Err a) = a
-  answer_of (Ok h) =
-      cond (h.cued || s.lines.configured) (input_answer s.slots c.input (length c.left) (length c.right)) Quiet
+  answer_of (Ok r) =
+      cond (r.header.cued || s.lines.configured) (input_answer s.slots c.input (length c.left) (length c.right)) Quiet
 
   abbrev pub answer : Answer
-  answer = answer_of resolved.line
+  answer = answer_of read
 
 -- ---- the frame of an accepted call
-
-abbrev pub header_of : Result Header Answer → Header
-header_of (Ok h) = h
-header_of (Err a) = no_header
 
 abbrev pub modes_of : Header → Modes
 modes_of h = record { fine = fine_of h.config; rb = rb_of h.config; phase = h.phase }
 
 module _ (s : Playing) (c : Call) where
   abbrev pub header : Header
-  header = header_of (resolved s c).line
+  header = (resolved s c).header
 
   abbrev pub layout : Layout
   layout = layout_in s.core.layout header

@@ -28,8 +28,8 @@ module _ (low high c : ℕ) where
 abbrev other : ℕ → Bool
 other c = not (is_digit c)
 
-one_more : (t : Bool) (n : ℕ) → cond t (suc n) 0 ≡ cond (not t) 0 (1 + n)
-one_more true n = omega arith
+one_more : (t : Bool) (n : ℕ) → cond t (1 + n) 0 ≡ cond (not t) 0 (1 + n)
+one_more true n = refl
 one_more false n = refl
 
 is_there : (t : Bool) (n : ℕ) → is_some {T = ℕ} (cond t (Some n) None) ≡ t
@@ -37,7 +37,6 @@ is_there true n = refl
 is_there false n = refl
 
 pub others : (text : List ℕ) → is_some (position (λ c. not (is_digit c)) text) ≡ ltb (before is_digit text) (length text)
-unfolding before
 others text =
     is_there (ltb (position_or_len other text) (length text)) (position_or_len other text)
     ∙ ap (λ (n : ℕ). ltb n (length text)) (sym (is_position_or_len (before is_digit) other refl (λ c cs. one_more (is_digit c) (before is_digit cs)) text))

@@ -14,29 +14,28 @@ use Rattle.limits.specs.Limits as limits
 use Rattle.lists.specs.First.{before}
 use Rattle.lists.specs.Padded.{padded}
 use Rattle.cue.specs.declared.Cue.{Cue}
-use Rattle.cue.specs.declared.Header.{Header}
 use Rattle.std.specs.Option.{is_some}
 use Rattle.cue.specs.Checks.{found, head_checks, body_checks}
 use Rattle.cue.specs.Digits.{is_digit, bytes_of, ragged}
 use Rattle.cue.specs.Fields.{places_of, header_of}
 use Rattle.cue.specs.Line.{read_bytes, read_line}
 
-abbrev Sound : Result Header Answer → Type 0
-Sound (Ok h) = Unit
+abbrev Sound : Result Cue Answer → Type 0
+Sound (Ok q) = Unit
 Sound (Err a) = number_of a ≢ 0
 
-either : (t : Bool) (x y : Cue) → Sound x.line → Sound y.line → Sound (cond {A = Cue} t x y).line
+either : (t : Bool) (x y : Result Cue Answer) → Sound x → Sound y → Sound (cond {A = Result Cue Answer} t x y)
 either true x y p q = p
 either false x y p q = q
 
-bytes_sound : (digits : ℕ) (bytes : List ℕ) → Sound (read_bytes digits bytes).line
+bytes_sound : (digits : ℕ) (bytes : List ℕ) → Sound (read_bytes digits bytes)
 unfolding read_bytes
 bytes_sound digits bytes =
     either (is_some (found bytes head_checks)) _ _ (λ e. omega arith)
     (either (not (eqb digits (2 * (places_of (header_of bytes)).end))) _ _ (λ e. omega arith)
     (either (is_some (found bytes (body_checks (header_of bytes)))) _ _ (λ e. omega arith) tt))
 
-line_sound : (text : List ℕ) → Sound (read_line text).line
+line_sound : (text : List ℕ) → Sound (read_line text)
 unfolding read_line
 line_sound text =
     either (ltb limits.digits (length text)) _ _ (λ e. omega arith)
@@ -44,5 +43,5 @@ line_sound text =
     (either (ragged (length text)) _ _ (λ e. omega arith)
     (either (eqb (length text) 0) _ _ tt (bytes_sound (length text) (padded limits.bytes 0 (bytes_of text))))))
 
-pub refused_not_done : (text : List ℕ) (a : Answer) → (read_line text).line ≡ Err a → number_of a ≢ 0
+pub refused_not_done : (text : List ℕ) (a : Answer) → read_line text ≡ Err a → number_of a ≢ 0
 refused_not_done text a e = subst Sound e (line_sound text)

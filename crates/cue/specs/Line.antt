@@ -12,9 +12,9 @@ use Rattle.cue.specs.Digits.{is_digit, bytes_of, ragged}
 use Rattle.cue.specs.Fields.{places_of, header_of}
 use Rattle.cue.specs.Checks.{found, head_checks, body_checks}
 
--- the answer of reading: 0 where the line is read
-abbrev pub answer_of : Result Header Answer → Answer
-answer_of (Ok h) = Done
+-- the answer of reading: 0 where something was read
+abbrev pub answer_of : {A : Type 0} → Result A Answer → Answer
+answer_of (Ok x) = Done
 answer_of (Err a) = a
 
 -- an empty line brings no stereo data
@@ -30,24 +30,20 @@ no_header =
 
 -- a line that is read, with its bytes
 abbrev pub cue_of : Header → List ℕ → Cue
-cue_of h bytes = record { line = Ok h; places = places_of h; bytes = bytes }
-
--- nothing is padded of a refused line
-abbrev pub refused : Answer → Cue
-refused answer = record { line = Err answer; places = places_of no_header; bytes = replicate limits.bytes 0 }
+cue_of h bytes = record { header = h; places = places_of h; bytes = bytes }
 
 -- the bytes of a line of so many digits, zeros after them; a byte out of range refuses the line
-unfoldable pub read_bytes : ℕ → List ℕ → Cue
+unfoldable pub read_bytes : ℕ → List ℕ → Result Cue Answer
 read_bytes digits bytes =
-    cond (is_some (found bytes head_checks)) (refused Field)
-    (cond (not (eqb digits (2 * (places_of (header_of bytes)).end))) (refused Length)
-    (cond (is_some (found bytes (body_checks (header_of bytes)))) (refused Field)
-    (cue_of (header_of bytes) bytes)))
+    cond (is_some (found bytes head_checks)) (Err Field)
+    (cond (not (eqb digits (2 * (places_of (header_of bytes)).end))) (Err Length)
+    (cond (is_some (found bytes (body_checks (header_of bytes)))) (Err Field)
+    (Ok (cue_of (header_of bytes) bytes))))
 
-unfoldable pub read_line : List ℕ → Cue
+unfoldable pub read_line : List ℕ → Result Cue Answer
 read_line text =
-    cond (ltb limits.digits (length text)) (refused Length)
-    (cond (ltb (before is_digit text) (length text)) (refused Character)
-    (cond (ragged (length text)) (refused Length)
-    (cond (eqb (length text) 0) (cue_of no_header (replicate limits.bytes 0))
+    cond (ltb limits.digits (length text)) (Err Length)
+    (cond (ltb (before is_digit text) (length text)) (Err Character)
+    (cond (ragged (length text)) (Err Length)
+    (cond (eqb (length text) 0) (Ok (cue_of no_header (replicate limits.bytes 0)))
     (read_bytes (length text) (padded limits.bytes 0 (bytes_of text))))))

@@ -8,7 +8,7 @@ mod fields;
 ghost use Rattle.std.specs.Prelude.{◌≡◌, replicate};
 ghost use Rattle.limits.specs.Limits as limits;
 ghost use Rattle.cue.specs.Fields.{parameters_of, count_of, phase_count_of, fine_of, rb_of, places_of};
-ghost use Rattle.cue.specs.Line.{answer_of, no_header, cue_of, refused, read_bytes, read_line};
+ghost use Rattle.cue.specs.Line.{answer_of, no_header, cue_of, read_bytes, read_line};
 
 use answer::Answer;
 
@@ -54,25 +54,19 @@ pub struct Places {
     pub end: usize,
 }
 
-// What a line says, or by which answer it is refused.
-pub type Line = Result<Header, Answer>;
-
-// A line, where its rows stand, and its bytes with zeros after them.
+// A line that is read: what it says, where its rows stand, and its bytes with zeros after them.
 #[derive(Clone, Copy)]
 pub struct Cue {
-    pub line: Line,
+    pub header: Header,
     pub places: Places,
     pub bytes: [u8; limits::BYTES],
 }
 
-// The answer of reading a line.
-pub fn answer_of(line: Line) -> Answer
-    ensures { result ≡ answer_of line }
+// The answer of reading a line: Done where something was read.
+pub fn answer_of<T: Drop>(read: Result<T, Answer>) -> Answer
+    ensures { result ≡ answer_of read }
 {
-    match line {
-        Ok(_) => Answer::Done,
-        Err(answer) => answer,
-    }
+    read.err().unwrap_or(Answer::Done)
 }
 
 impl Parameter {
@@ -137,22 +131,12 @@ fn no_header() -> Header
     }
 }
 
-fn refuse(answer: Answer) -> Cue
-    ensures { result ≡ refused answer }
-{
-    Cue {
-        line: Err(answer),
-        places: fields::places(no_header()),
-        bytes: [0; limits::BYTES],
-    }
-}
-
 fn no_cue() -> Cue
     ensures { result ≡ cue_of no_header (replicate limits.bytes 0) }
 {
     let header = no_header();
     Cue {
-        line: Ok(header),
+        header,
         places: fields::places(header),
         bytes: [0; limits::BYTES],
     }
@@ -160,44 +144,44 @@ fn no_cue() -> Cue
 
 // The fields of a line of so many digits.
 #[tactic(auto, unfolding(crate::specs::Line::read_bytes))]
-fn read_bytes(digits: usize, bytes: [u8; limits::BYTES]) -> Cue
+fn read_bytes(digits: usize, bytes: [u8; limits::BYTES]) -> Result<Cue, Answer>
     ensures { result ≡ read_bytes digits bytes }
 {
     if fields::first_bad_head(&bytes).is_some() {
-        return refuse(Answer::Field);
+        return Err(Answer::Field);
     }
     let header = fields::header(&bytes);
     let places = fields::places(header);
     if digits != 2 * places.end {
-        return refuse(Answer::Length);
+        return Err(Answer::Length);
     }
     if fields::first_bad_field(header, places, &bytes).is_some() {
-        return refuse(Answer::Field);
+        return Err(Answer::Field);
     }
-    Cue {
-        line: Ok(header),
+    Ok(Cue {
+        header,
         places,
         bytes,
-    }
+    })
 }
 
 // A line of any length and any characters.
 #[tactic(auto, using(crate::proofs::Characters::others), unfolding(crate::specs::Line::read_line))]
-pub fn read(text: &[u8]) -> Cue
+pub fn read(text: &[u8]) -> Result<Cue, Answer>
     ensures { result ≡ read_line text.now }
 {
     let digits = text.len();
     if limits::DIGITS < digits {
-        return refuse(Answer::Length);
+        return Err(Answer::Length);
     }
     if digits::first_other(text).is_some() {
-        return refuse(Answer::Character);
+        return Err(Answer::Character);
     }
     if digits::is_ragged(digits) {
-        return refuse(Answer::Length);
+        return Err(Answer::Length);
     }
     if digits == 0 {
-        return no_cue();
+        return Ok(no_cue());
     }
     read_bytes(digits, digits::bytes(text))
 }

@@ -40,24 +40,20 @@ fn noted(before: Listing, written: Result<()>) -> Listing {
 // One line of the input, without its newline.
 fn list_line(out: &impl Print, before: Listing, line: &[u8]) -> Listing {
     let number = std::num::wrapping_add_u64(before.number, 1);
-    let lines = before.lines;
-    let got = ps_data::resolve(lines, line);
-    let read = got.line;
-    let indices = got.indices;
-    let Ok(header) = read else {
-        let refusal = cue::answer_of(read);
-        let written = write_line(out, number, u8::from(refusal), indices);
-        let mut after = before;
-        after.number = number;
-        after.count = 0;
-        return noted(after, written);
+    let (answer, lines, indices) = match ps_data::resolve(before.lines, line) {
+        Ok(read) => {
+            let answer = ps_data::read_answer(read.header, before.lines.configured);
+            (answer, read.lines, read.indices)
+        }
+        Err(answer) => (answer, before.lines, ps_data::no_indices()),
     };
-    let answer = ps_data::read_answer(header, lines.configured);
     let written = write_line(out, number, u8::from(answer), indices);
-    let mut after = before;
-    after.lines = got.lines;
-    after.number = number;
-    after.count = 0;
+    let after = Listing {
+        lines,
+        number,
+        count: 0,
+        ..before
+    };
     noted(after, written)
 }
 

@@ -8,11 +8,12 @@ use Rattle.layout.specs.declared.Layout.{Layout}
 use Rattle.layout.specs.declared.Layout.TheVariants.{Bands20, Bands34}
 use Rattle.cue.specs.declared.Block.{Block}
 use Rattle.cue.specs.declared.Config.{Config}
+use Rattle.cue.specs.declared.Cue.{Cue}
 use Rattle.cue.specs.declared.Parameter.{Parameter}
 use Rattle.cue.specs.declared.Places.{Places}
 use Rattle.cue.specs.declared.Header.{Header}
 use Rattle.cue.specs.Fields.{fine_of}
-use Rattle.cue.specs.Line.{read_line}
+use Rattle.cue.specs.Line.{no_header, read_line}
 use Rattle.ps_rows.specs.declared.Kind.{Kind}
 use Rattle.ps_rows.specs.declared.Kind.TheVariants.{Coarse, Fine, Coherence, Phase}
 use Rattle.ps_rows.specs.declared.Row.{Row}
@@ -78,14 +79,14 @@ positions_of h bytes =
     cond h.variable (padded limits.envelopes 0 (take (min h.envelopes limits.envelopes) (drop 4 bytes))) (replicate limits.envelopes 0)
 
 -- nothing is resolved
-abbrev pub unresolved : PsLines → Result Header Answer → Resolved
-unresolved lines line = record { line = line; lines = lines; indices = no_indices; positions = replicate limits.envelopes 0 }
+abbrev pub unresolved : PsLines → Header → Resolved
+unresolved lines h = record { header = h; lines = lines; indices = no_indices; positions = replicate limits.envelopes 0 }
 
 -- the rows of the four kinds
 abbrev pub collected : PsLines → Header → ResolvedKind → ResolvedKind → ResolvedKind → ResolvedKind → List ℕ → Resolved
 collected s h iid icc ipd opd positions =
     record {
-      line = Ok h;
+      header = h;
       lines = lines_after s h (record { iid = iid.kept; icc = icc.kept; ipd = ipd.kept; opd = opd.kept });
       indices = record { iid = iid.rows; icc = icc.rows; ipd = ipd.rows; opd = opd.rows };
       positions = positions;
@@ -101,10 +102,19 @@ resolved s h at bytes =
     (kind_of Phase s.rows.opd h.envelopes at.opd bytes)
     (positions_of h bytes)
 
--- no envelopes change no index, and a refused line changes nothing
-abbrev pub by_line : PsLines → Result Header Answer → Places → List ℕ → Resolved
-by_line s (Ok h) at bytes = cond (eqb h.envelopes 0) (unresolved (lines_after s h s.rows) (Ok h)) (resolved s h at bytes)
-by_line s (Err a) at bytes = unresolved s (Err a)
+-- no envelopes change no index
+abbrev pub by_cue : PsLines → Cue → Resolved
+by_cue s q = cond (eqb q.header.envelopes 0) (unresolved (lines_after s q.header s.rows) q.header) (resolved s q.header q.places q.bytes)
 
-unfoldable pub resolve_line : PsLines → List ℕ → Resolved
-resolve_line s text = by_line s (read_line text).line (read_line text).places (read_line text).bytes
+-- a refused line is refused
+abbrev pub by_line : PsLines → Result Cue Answer → Result Resolved Answer
+by_line s (Ok q) = Ok (by_cue s q)
+by_line s (Err a) = Err a
+
+unfoldable pub resolve_line : PsLines → List ℕ → Result Resolved Answer
+resolve_line s text = by_line s (read_line text)
+
+-- what a line leaves: a refused line changes nothing
+abbrev pub left_by : PsLines → Result Resolved Answer → Resolved
+left_by s (Ok r) = r
+left_by s (Err a) = unresolved s no_header

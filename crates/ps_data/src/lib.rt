@@ -8,7 +8,7 @@ ghost use Rattle.std.specs.Prelude.{◌≡◌};
 ghost use Rattle.ps_data.specs.Indices.{on_thirty_four, layout_of, layout_in, read_answer, no_rows, fresh_lines, lines_after, no_indices, unresolved, resolve_line};
 
 use answer::Answer;
-use cue::{Config, Header, Line, Parameter};
+use cue::{Config, Header, Parameter};
 use layout::Layout;
 use ps_rows::{Row, Rows};
 
@@ -37,10 +37,10 @@ pub struct PsIndices {
     pub opd: Rows,
 }
 
-// What a line says, what it and those before it have left, its indices, and its own borders where they are variable.
+// What a line that is read says, what it and those before it have left, its indices, and its own borders where they are variable.
 #[derive(Clone, Copy)]
 pub struct Resolved {
-    pub line: Line,
+    pub header: Header,
     pub lines: PsLines,
     pub indices: PsIndices,
     pub positions: [u8; limits::ENVELOPES],
@@ -49,43 +49,40 @@ pub struct Resolved {
 fn on_thirty_four(p: Parameter) -> bool
     ensures { result ≡ on_thirty_four p }
 {
-    if p.present { p.mode % 3 == 2 } else { false }
+    p.present && p.mode % 3 == 2
 }
 
 // The layout of a configuration.
 pub fn layout_of(config: Config) -> Layout
     ensures { result ≡ layout_of config }
 {
-    let iid = config.iid;
-    let icc = config.icc;
-    if on_thirty_four(iid) {
-        return Layout::Bands34;
+    if on_thirty_four(config.iid) || on_thirty_four(config.icc) {
+        Layout::Bands34
+    } else {
+        Layout::Bands20
     }
-    if on_thirty_four(icc) {
-        return Layout::Bands34;
-    }
-    Layout::Bands20
 }
 
 // An empty line leaves the configuration in force, and so the layout.
 pub fn layout_in(old: Layout, header: Header) -> Layout
     ensures { result ≡ layout_in old header }
 {
-    let config = header.config;
-    if header.cued { layout_of(config) } else { old }
+    if header.cued {
+        layout_of(header.config)
+    } else {
+        old
+    }
 }
 
 // The answer of a line that is read, by whether a configuration has come before it.
 pub fn read_answer(header: Header, configured: bool) -> Answer
     ensures { result ≡ read_answer header configured }
 {
-    if header.cued {
-        return Answer::Done;
+    if header.cued || configured {
+        Answer::Done
+    } else {
+        Answer::Quiet
     }
-    if configured {
-        return Answer::Done;
-    }
-    Answer::Quiet
 }
 
 fn no_rows() -> PsIndexState
@@ -115,12 +112,13 @@ fn lines_after(lines: PsLines, header: Header, rows: PsIndexState) -> PsLines
     ensures { result ≡ lines_after lines header rows }
 {
     PsLines {
-        configured: lines.configured | header.cued,
-        rows: rows,
+        configured: lines.configured || header.cued,
+        rows,
     }
 }
 
-fn no_indices() -> PsIndices
+// The indices of nothing.
+pub fn no_indices() -> PsIndices
     ensures { result ≡ no_indices }
 {
     let none = ps_rows::no_rows();
@@ -132,32 +130,27 @@ fn no_indices() -> PsIndices
     }
 }
 
-fn leave(lines: PsLines, line: Line) -> Resolved
-    ensures { result ≡ unresolved lines line }
+// A line without envelopes.
+fn unresolved(lines: PsLines, header: Header) -> Resolved
+    ensures { result ≡ unresolved lines header }
 {
-    let none = no_indices();
     Resolved {
-        line: line,
-        lines: lines,
-        indices: none,
-        positions: [0u8; limits::ENVELOPES],
+        header,
+        lines,
+        indices: no_indices(),
+        positions: [0; limits::ENVELOPES],
     }
 }
 
 // A line of any length and any characters, after any lines.
-pub fn resolve(lines: PsLines, text: &[u8]) -> Resolved
+#[tactic(auto, unfolding(crate::specs::Indices::resolve_line))]
+pub fn resolve(lines: PsLines, text: &[u8]) -> Result<Resolved, Answer>
     ensures { result ≡ resolve_line lines text.now }
 {
-    let read = cue::read(text);
-    let line = read.line;
-    let Ok(header) = line else {
-        return leave(lines, line);
-    };
-    if header.envelopes == 0 {
-        let rows = lines.rows;
-        return leave(lines_after(lines, header, rows), Ok(header));
+    let cue = cue::read(text)?;
+    if cue.header.envelopes == 0 {
+        let after = lines_after(lines, cue.header, lines.rows);
+        return Ok(unresolved(after, cue.header));
     }
-    let at = read.places;
-    let bytes = read.bytes;
-    kinds::resolve_rows(lines, header, at, &bytes)
+    Ok(kinds::resolve_rows(lines, &cue))
 }

@@ -1,5 +1,5 @@
 -- An accepted call, by what the driver finds out in turn and what its stages give. Assumes nothing.
-use Rattle.std.specs.Prelude.{Ok}
+use Rattle.std.specs.Prelude.{Result, Ok}
 use native.Mathlib.Omega.{arith}
 use mathlib.Core.Path.{◌≡◌, refl, sym, ap, ◌∙◌}
 use mathlib.Core.Bool.{Bool, true, false, ◌||◌}
@@ -8,14 +8,16 @@ use borrow.Author.Tests.{eq-eqb}
 use lib.Dec.{eqb}
 use lib.Ieee.{Float}
 use lib.ListN.{length}
+use Rattle.answer.specs.declared.Answer.{Answer}
 use Rattle.answer.specs.declared.Answer.TheVariants.{Done, Quiet}
 use Rattle.answer.specs.Number.{number_of}
 use Rattle.borders.specs.Borders.{slots_of}
-use Rattle.calls.specs.Call.{Call, input_answer, resolved, answer_of, answer, header_of, header, layout}
+use Rattle.calls.specs.Call.{Call, input_answer, read, resolved, answer_of, answer, header, layout}
 use Rattle.calls.proofs.Accepts.{accepted_fits}
 use Rattle.calls.proofs.Outcomes.{done_played}
 use Rattle.cue.specs.declared.Header.{Header}
-use Rattle.ps_data.specs.Indices.{layout_in, read_answer}
+use Rattle.ps_data.specs.declared.Resolved.{Resolved}
+use Rattle.ps_data.specs.Indices.{layout_in, read_answer, left_by}
 use Rattle.ps_state.specs.declared.PsDecoder.{PsDecoder}
 use Rattle.ps_state.specs.State.{core_of, playing_of}
 use Rattle.ps_state.specs.Ready.{readied}
@@ -25,10 +27,13 @@ use Rattle.ps_decoder.specs.Sound.{left_of, right_of, sounded}
 use Rattle.ps_decoder.proofs.Accepted.{state_is, left_is, right_is}
 use Rattle.ps_decoder.proofs.Refusals.{Left}
 
-module _ (s : PsDecoder) (c : Call) (h : Header) (said : (resolved (playing_of s) c).line ≡ Ok h) (heard : read_answer h s.lines.configured ≡ Done)
+module _ (s : PsDecoder) (c : Call) (q : Resolved) (said : read (playing_of s) c ≡ Ok q) (heard : read_answer q.header s.lines.configured ≡ Done)
     (lent : input_answer (slots_of s.asked) c.input (length c.left) (length c.right) ≡ Done) where
+  abbrev h : Header
+  h = q.header
+
   header_is : header (playing_of s) c ≡ h
-  header_is = ap header_of said
+  header_is = ap (λ (x : Result Resolved Answer). (left_by (playing_of s).lines x).header) said
 
   answer_is : answer (playing_of s) c ≡ Done
   unfolding answer_of playing_of

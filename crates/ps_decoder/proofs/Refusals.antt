@@ -13,10 +13,10 @@ use Rattle.answer.specs.declared.Answer.{Answer}
 use Rattle.answer.specs.declared.Answer.TheVariants.{Done, Quiet}
 use Rattle.answer.specs.Number.{number_of}
 use Rattle.borders.specs.Borders.{slots_of}
-use Rattle.calls.specs.Call.{Call, input_answer, resolved, answer_of, answer, played}
+use Rattle.calls.specs.Call.{Call, input_answer, read, answer_of, answer, played}
 use Rattle.calls.proofs.Accepts.{refused_not_done}
 use Rattle.calls.proofs.Outcomes.{refused_unchanged}
-use Rattle.cue.specs.declared.Header.{Header}
+use Rattle.ps_data.specs.declared.Resolved.{Resolved}
 use Rattle.ps_data.specs.Indices.{read_answer}
 use Rattle.ps_state.specs.declared.PsDecoder.{PsDecoder}
 use Rattle.ps_state.specs.State.{playing_of}
@@ -35,34 +35,34 @@ unchanged s c a e ne =
     (rw (kept, e), (rw same, rw same))
 
 -- a line that is refused
-pub line_refused : (s : PsDecoder) (c : Call) (a : Answer) → (resolved (playing_of s) c).line ≡ Err a → Left s c (record { answer = a; state = s }) c.left c.right
+pub line_refused : (s : PsDecoder) (c : Call) (a : Answer) → read (playing_of s) c ≡ Err a → Left s c (record { answer = a; state = s }) c.left c.right
 unfolding answer_of
 line_refused s c a e = unchanged s c a (rw e) (refused_not_done (playing_of s) c a e)
 
 -- an empty line before any configuration
-pub quiet : (s : PsDecoder) (c : Call) (h : Header) (a : Answer) → (resolved (playing_of s) c).line ≡ Ok h → a ≡ read_answer h s.lines.configured → number_of a ≢ 0
+pub quiet : (s : PsDecoder) (c : Call) (q : Resolved) (a : Answer) → read (playing_of s) c ≡ Ok q → a ≡ read_answer q.header s.lines.configured → number_of a ≢ 0
     → Left s c (record { answer = a; state = s }) c.left c.right
 unfolding answer_of playing_of
-quiet s c h a e is ne = go (h.cued || s.lines.configured) refl
+quiet s c q a e is ne = go (q.header.cued || s.lines.configured) refl
   where
-    go : (t : Bool) → h.cued || s.lines.configured ≡ t → Left s c (record { answer = a; state = s }) c.left c.right
+    go : (t : Bool) → q.header.cued || s.lines.configured ≡ t → Left s c (record { answer = a; state = s }) c.left c.right
     go true b =
-        let said : read_answer h s.lines.configured ≡ Done = rw b in
+        let said : read_answer q.header s.lines.configured ≡ Done = rw b in
         absurd (ne (ap number_of (is ∙ said)))
     go false b =
-        let said : read_answer h s.lines.configured ≡ Quiet = rw b in
+        let said : read_answer q.header s.lines.configured ≡ Quiet = rw b in
         unchanged s c a (rw (e, b) (sym (is ∙ said))) ne
 
 -- an input that is refused
-pub input_refused : (s : PsDecoder) (c : Call) (h : Header) (a : Answer) → (resolved (playing_of s) c).line ≡ Ok h → read_answer h s.lines.configured ≡ Done
+pub input_refused : (s : PsDecoder) (c : Call) (q : Resolved) (a : Answer) → read (playing_of s) c ≡ Ok q → read_answer q.header s.lines.configured ≡ Done
     → a ≡ input_answer (slots_of s.asked) c.input (length c.left) (length c.right) → number_of a ≢ 0
     → Left s c (record { answer = a; state = s }) c.left c.right
 unfolding answer_of playing_of
-input_refused s c h a e read is ne = go (h.cued || s.lines.configured) refl
+input_refused s c q a e done is ne = go (q.header.cued || s.lines.configured) refl
   where
-    go : (t : Bool) → h.cued || s.lines.configured ≡ t → Left s c (record { answer = a; state = s }) c.left c.right
+    go : (t : Bool) → q.header.cued || s.lines.configured ≡ t → Left s c (record { answer = a; state = s }) c.left c.right
     go true b = unchanged s c a (rw (e, b) (sym is)) ne
     go false b =
-        let said : read_answer h s.lines.configured ≡ Quiet = rw b in
-        let one : number_of Quiet ≡ number_of Done = ap number_of (sym said ∙ read) in
+        let said : read_answer q.header s.lines.configured ≡ Quiet = rw b in
+        let one : number_of Quiet ≡ number_of Done = ap number_of (sym said ∙ done) in
         absurd (omega arith)

@@ -60,13 +60,12 @@ pub fn lent_frame(
     if sound.len() != ps_state::SOUND {
         return Err(Answer::Buffers);
     }
-    let lines = carried.lines;
-    let resolved = ps_data::resolve(lines, line);
-    let read = resolved.line;
-    let Ok(header) = read else {
+    let read = ps_data::resolve(carried.lines, line);
+    let Ok(resolved) = read else {
         return Err(cue::answer_of(read));
     };
-    let of_line = ps_data::read_answer(header, lines.configured);
+    let header = resolved.header;
+    let of_line = ps_data::read_answer(header, carried.lines.configured);
     let Answer::Done = of_line else {
         return Err(of_line);
     };

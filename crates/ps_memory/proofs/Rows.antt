@@ -10,6 +10,7 @@ use lib.Signed.{mag}
 use Rattle.calls.specs.Cues.{envelope_row}
 use Rattle.answer.specs.declared.Answer.{Answer}
 use Rattle.cue.specs.declared.Block.{Block}
+use Rattle.cue.specs.declared.Cue.{Cue}
 use Rattle.cue.specs.declared.Header.{Header}
 use Rattle.cue.specs.declared.Places.{Places}
 use Rattle.cue.specs.Line.{read_line}
@@ -18,7 +19,7 @@ use Rattle.limits.specs.Limits as limits
 use Rattle.lists.proofs.Padded.{padded_length}
 use Rattle.ps_data.specs.declared.PsLines.{PsLines}
 use Rattle.ps_data.specs.declared.Resolved.{Resolved}
-use Rattle.ps_data.specs.Indices.{kind_of, resolved, by_line, resolve_line}
+use Rattle.ps_data.specs.Indices.{kind_of, resolved, by_line, resolve_line, left_by}
 use Rattle.ps_rows.specs.declared.Kind.{Kind}
 use Rattle.ps_rows.specs.declared.Kind.TheVariants.{Coarse, Fine, Coherence, Phase}
 use Rattle.ps_rows.specs.declared.Row.{Row}
@@ -120,11 +121,11 @@ module _ (s : PsLines) (kept : IndicesKept s.rows) where
         opd = kind_narrow _ _ _ at.opd _;
       }
 
-  by_line_kept : (line : Result Header Answer) (at : Places) (bytes : List ℕ) → ResolvedKept (by_line s line at bytes)
-  by_line_kept (Err a) at bytes = record { rows = kept; ipd = nothing_narrow; opd = nothing_narrow }
-  by_line_kept (Ok h) at bytes =
-      either ResolvedKept (eqb h.envelopes 0) _ _ (record { rows = kept; ipd = nothing_narrow; opd = nothing_narrow }) (header_kept h at bytes)
+  by_line_kept : (read : Result Cue Answer) → ResolvedKept (left_by s (by_line s read))
+  by_line_kept (Err a) = record { rows = kept; ipd = nothing_narrow; opd = nothing_narrow }
+  by_line_kept (Ok q) =
+      either ResolvedKept (eqb q.header.envelopes 0) _ _ (record { rows = kept; ipd = nothing_narrow; opd = nothing_narrow }) (header_kept q.header q.places q.bytes)
 
-  pub line_kept : (text : List ℕ) → ResolvedKept (resolve_line s text)
+  pub line_kept : (text : List ℕ) → ResolvedKept (left_by s (resolve_line s text))
   unfolding resolve_line
-  line_kept text = by_line_kept (read_line text).line (read_line text).places (read_line text).bytes
+  line_kept text = by_line_kept (read_line text)

@@ -65,9 +65,14 @@ pub fn begin(
     runs: &mut [f64; RUNS],
 ) -> Option<Begun> {
     let small = ps_memory::load(&carried.memory);
-    let resolved = ps_data::resolve(small.lines, call.line);
-    let Ok(header) = resolved.line else {
-        return None;
-    };
-    Some(begin_read(rt, small, header, resolved, call, carried, runs))
+    let resolved = ps_data::resolve(small.lines, call.line).ok()?;
+    Some(begin_read(
+        rt,
+        small,
+        resolved.header,
+        resolved,
+        call,
+        carried,
+        runs,
+    ))
 }

@@ -10,12 +10,11 @@ use Rattle.answer.specs.declared.Answer.{Answer}
 use Rattle.answer.specs.declared.Answer.TheVariants.{Done}
 use Rattle.answer.specs.Number.{number_of}
 use Rattle.answer.proofs.Refused.{zero_done}
-use Rattle.calls.specs.Call.{Call, resolved}
+use Rattle.calls.specs.Call.{Call, read, resolved}
 use Rattle.calls.proofs.Accepts.{taken_room, refused_not_done}
-use Rattle.cue.specs.declared.Header.{Header}
-use Rattle.cue.specs.Line as line
+use Rattle.cue.specs.Line as cue
 use Rattle.ps_data.specs.declared.Resolved.{Resolved}
-use Rattle.ps_data.specs.Indices.{read_answer}
+use Rattle.ps_data.specs.Indices.{read_answer, left_by}
 use Rattle.ps_state.specs.declared.PsDecoder.{PsDecoder}
 use Rattle.ps_state.specs.State.{sound_long, decoder_in, playing_of}
 use Rattle.ps_state.specs.Shape.{Shaped}
@@ -44,21 +43,18 @@ returns-in_default-clause-told c =
     let call_by : Call = call_of c.args.line.now c.args.input.now c.args.edge c.args.left.now c.args.right.now in
     let state : PsDecoder = decoder_in c.args.carried c.args.sound.now in
     let long : length c.args.sound.now ≡ sound_long = omega arith in
-    let resolved_is : c.resolve-resolved.result ≡ resolved (playing_of state) call_by = c.resolve-resolved.ensures in
     let refused = c.in_default.is in
-    let answered = c.answer_of.ensures ∙ ap line.answer_of refused in
-    rw answered (lent_refused c.args.carried c.args.sound.now call_by _ long
-    (line_refused state call_by _ (ap (λ (x : Resolved). x.line) (sym resolved_is) ∙ refused)))
+    let answered = c.answer_of.ensures ∙ ap cue.answer_of refused in
+    rw answered (lent_refused c.args.carried c.args.sound.now call_by _ long (line_refused state call_by _ (sym c.resolve-read.ensures ∙ refused)))
 
 pub returns-in_default-clause-refused : goal.returns-in_default-clause-refused
 unfolding playing_of
 returns-in_default-clause-refused c =
     let call_by : Call = call_of c.args.line.now c.args.input.now c.args.edge c.args.left.now c.args.right.now in
     let state : PsDecoder = decoder_in c.args.carried c.args.sound.now in
-    let resolved_is : c.resolve-resolved.result ≡ resolved (playing_of state) call_by = c.resolve-resolved.ensures in
     let refused = c.in_default.is in
-    let answered = c.answer_of.ensures ∙ ap line.answer_of refused in
-    let other = refused_not_done (playing_of state) call_by _ (ap (λ (x : Resolved). x.line) (sym resolved_is) ∙ refused) in
+    let answered = c.answer_of.ensures ∙ ap cue.answer_of refused in
+    let other = refused_not_done (playing_of state) call_by _ (sym c.resolve-read.ensures ∙ refused) in
     rw answered (omega (arith, other))
 
 -- an empty line before any configuration
@@ -68,12 +64,11 @@ returns-in_default-of_line-clause-told c =
     let call_by : Call = call_of c.args.line.now c.args.input.now c.args.edge c.args.left.now c.args.right.now in
     let state : PsDecoder = decoder_in c.args.carried c.args.sound.now in
     let long : length c.args.sound.now ≡ sound_long = omega arith in
-    let resolved_is : c.resolve-resolved.result ≡ resolved (playing_of state) call_by = c.resolve-resolved.ensures in
-    let header : Header = c.in-Ok.header in
-    let says : (resolved (playing_of state) call_by).line ≡ Ok header = ap (λ (x : Resolved). x.line) (sym resolved_is) ∙ c.in-Ok.is in
-    let read = c.read_answer-of_line in
-    lent_refused c.args.carried c.args.sound.now call_by read.result long
-    (quiet state call_by header read.result says read.ensures (λ e. c.in_default-of_line.not-Done (zero_done read.result e)))
+    let line : Resolved = c.in-Ok.resolved in
+    let says : read (playing_of state) call_by ≡ Ok line = sym c.resolve-read.ensures ∙ c.in-Ok.is in
+    let quieted = c.read_answer-of_line in
+    lent_refused c.args.carried c.args.sound.now call_by quieted.result long
+    (quiet state call_by line quieted.result says quieted.ensures (λ e. c.in_default-of_line.not-Done (zero_done quieted.result e)))
 
 pub returns-in_default-of_line-clause-refused : goal.returns-in_default-of_line-clause-refused
 returns-in_default-of_line-clause-refused c = not_zero c.read_answer-of_line.result c.in_default-of_line.not-Done
@@ -85,13 +80,12 @@ returns-in_default-of_input-clause-told c =
     let call_by : Call = call_of c.args.line.now c.args.input.now c.args.edge c.args.left.now c.args.right.now in
     let state : PsDecoder = decoder_in c.args.carried c.args.sound.now in
     let long : length c.args.sound.now ≡ sound_long = omega arith in
-    let resolved_is : c.resolve-resolved.result ≡ resolved (playing_of state) call_by = c.resolve-resolved.ensures in
-    let header : Header = c.in-Ok.header in
-    let says : (resolved (playing_of state) call_by).line ≡ Ok header = ap (λ (x : Resolved). x.line) (sym resolved_is) ∙ c.in-Ok.is in
-    let heard : read_answer header state.lines.configured ≡ Done = sym c.read_answer-of_line.ensures ∙ c.in-Done.is in
+    let line : Resolved = c.in-Ok.resolved in
+    let says : read (playing_of state) call_by ≡ Ok line = sym c.resolve-read.ensures ∙ c.in-Ok.is in
+    let heard : read_answer line.header state.lines.configured ≡ Done = sym c.read_answer-of_line.ensures ∙ c.in-Done.is in
     let answered = c.input_answer-of_input in
     lent_refused c.args.carried c.args.sound.now call_by answered.result long
-    (input_refused state call_by header answered.result says heard answered.ensures (λ e. c.in_default-of_input.not-Done (zero_done answered.result e)))
+    (input_refused state call_by line answered.result says heard answered.ensures (λ e. c.in_default-of_input.not-Done (zero_done answered.result e)))
 
 pub returns-in_default-of_input-clause-refused : goal.returns-in_default-of_input-clause-refused
 returns-in_default-of_input-clause-refused c = not_zero c.input_answer-of_input.result c.in_default-of_input.not-Done
@@ -110,12 +104,12 @@ returns-clause-told c =
     let call : Call = call_by in
     let long : length c.args.sound.now ≡ sound_long = omega arith in
     let shaped : Shaped state = shaped_in c.args.carried c.args.sound.now long c.well_formed.0.1.1.1.1.1.1.0.1.0.1 in
-    let resolved_is : c.resolve-resolved.result ≡ resolved (playing_of state) call = c.resolve-resolved.ensures in
-    let header : Header = c.in-Ok.header in
-    let says : (resolved (playing_of state) call).line ≡ Ok header = ap (λ (x : Resolved). x.line) (sym resolved_is) ∙ c.in-Ok.is in
-    let heard : read_answer header state.lines.configured ≡ Done = sym c.read_answer-of_line.ensures ∙ c.in-Done.is in
+    let line : Resolved = c.in-Ok.resolved in
+    let says : read (playing_of state) call ≡ Ok line = sym c.resolve-read.ensures ∙ c.in-Ok.is in
+    let heard : read_answer line.header state.lines.configured ≡ Done = sym c.read_answer-of_line.ensures ∙ c.in-Done.is in
     let taken = sym c.input_answer-of_input.ensures ∙ c.in-Done-of_input.is in
     let sounded = c.play-next.ensures.sounded in
+    let resolved_is : line ≡ resolved (playing_of state) call = ap (left_by state.lines) (sym says) in
     lent_told c.args.carried c.args.sound.now call _ _ _ _ long c.play-next.ensures.long
-    (accepted state call header says heard taken _ _ _ shaped
+    (accepted state call line says heard taken _ _ _ shaped
     (rw (← resolved_is) sounded.state) (rw (← resolved_is) sounded.left_rows) (rw (← resolved_is) sounded.right_rows))
