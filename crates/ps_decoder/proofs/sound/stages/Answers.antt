@@ -42,8 +42,8 @@ pub slice_bounds-delay_channels-end-2 : goal.slice_bounds-delay_channels-end-2
 slice_bounds-delay_channels-end-2 c =
     omega (
       arith,
-      passed_long c.args.sound.now c.analyse-analysed.new.history c.duck.new.detectors c.chains.new.delays
-          c.analyse-analysed.auto.history c.duck.auto.detectors c.chains.auto.delays,
+      passed_long c.args.sound.now c.analyse-analysed.new.history c.duck.new.detectors c.allpass_channels.new.delays
+          c.analyse-analysed.auto.history c.duck.auto.detectors c.allpass_channels.auto.delays,
       c.requires.2,
     )
 
@@ -52,24 +52,24 @@ shape_of-sound c =
     let sound = c.args.sound.now in
     let history = c.analyse-analysed.new.history in
     let detectors = c.duck.new.detectors in
-    let delays = c.chains.new.delays in
+    let delays = c.allpass_channels.new.delays in
     same_len_mid plain_at 394 (put delays_at 1456 (put detectors_at 102 (put 0 60 sound history) detectors) delays) c.delay_channels.new.plain
     c.delay_channels.auto.plain
-    ∙ passed_long sound history detectors delays c.analyse-analysed.auto.history c.duck.auto.detectors c.chains.auto.delays
+    ∙ passed_long sound history detectors delays c.analyse-analysed.auto.history c.duck.auto.detectors c.allpass_channels.auto.delays
 
 pub shape_of-left : goal.shape_of-left
-shape_of-left c = c.delay_channels.auto.left ∙ c.chains.auto.left
+shape_of-left c = c.delay_channels.auto.left ∙ c.allpass_channels.auto.left
 
 pub shape_of-right : goal.shape_of-right
-shape_of-right c = c.delay_channels.auto.right ∙ c.chains.auto.right
+shape_of-right c = c.delay_channels.auto.right ∙ c.allpass_channels.auto.right
 
 pub returns : goal.returns
 returns c =
     let history : List Float = c.analyse-analysed.new.history in
     let detectors : List Float = c.duck.new.detectors in
-    let delays : List Float = c.chains.new.delays in
+    let delays : List Float = c.allpass_channels.new.delays in
     let a = c.args in
-    let low = c.chains.ensures in
+    let low = rw c.rotations.ensures at c.allpass_channels.ensures in
     let high = c.delay_channels.ensures in
     let plain = c.delay_channels.new.plain in
     let given : Given a.carried a.timing a.rows.now a.input.now a.sound.now a.left.now a.right.now history detectors delays plain _ _ _ _ _ _
@@ -78,7 +78,7 @@ returns c =
       clamped = c.requires.0;
       history_kept = c.analyse-analysed.auto.history;
       detectors_kept = c.duck.auto.detectors;
-      delays_kept = c.chains.auto.delays;
+      delays_kept = c.allpass_channels.auto.delays;
       plain_kept = c.delay_channels.auto.plain;
       history_is = c.analyse-analysed.ensures.history;
       samples_are = c.analyse-analysed.ensures.samples;
