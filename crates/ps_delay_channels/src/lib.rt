@@ -38,15 +38,14 @@ fn frame(
         (λ j. past_then layout timing input.now gains.now rows.now plain.old (all_pass_of layout + j) timing.slots)
         (λ j. past_then layout timing input.now gains.now rows.now plain.old (short_delay_of layout + j) timing.slots) }
 {
-    let mut fractions = [0.0f64; limits::FRACTIONS];
-    let mut runs = [0.0f64; 256];
-    let borders = timing.borders;
-    ps_stereo_slots::fractions(borders, timing.count, &mut fractions);
+    let mut fractions = [0.0; limits::FRACTIONS];
+    let mut runs = [0.0; ps_stereo_slots::RUNS];
+    ps_stereo_slots::fractions(timing.borders, timing.count, &mut fractions);
     let position = timing.turn % 14;
     let longs = layout.all_pass();
     let long = Common {
-        layout: layout,
-        timing: timing,
+        layout,
+        timing,
         delay: span::delay_at(layout, longs, position),
     };
     span::each(
@@ -63,8 +62,8 @@ fn frame(
     );
     let shorts = layout.short_delay();
     let short = Common {
-        layout: layout,
-        timing: timing,
+        layout,
+        timing,
         delay: span::delay_at(layout, shorts, position),
     };
     span::each(
@@ -99,7 +98,7 @@ pub fn delay_channels(
     ensures right { right.new ≡ right_after layout timing input.now gains.now rows.now plain.old left.old right.old }
     ensures plain { plain.new ≡ plain_after layout timing input.now gains.now rows.now plain.old left.old right.old }
 {
-    let within = limits::least(timing.slots, 32);
+    let within = timing.slots.min(32);
     let needed = 128 * within;
     let bands = layout.bands();
     if left.len() != needed {
@@ -120,12 +119,9 @@ pub fn delay_channels(
     if plain.len() != 394 {
         return;
     }
-    let borders = timing.borders;
     let cut = Timing {
-        borders: borders,
-        count: timing.count,
         slots: within,
-        turn: timing.turn,
+        ..timing
     };
     frame(layout, cut, input, gains, rows, plain, left, right);
 }

@@ -7,6 +7,8 @@ ghost use Rattle.planar.specs.Frame.{matrix_at};
 ghost use Rattle.standard.specs.Mixing.{left_of, right_of};
 ghost use Rattle.ps_delay_channels.specs.Spans.{Before, Frame, Banded, mixed_at};
 
+use ps_stereo_slots::RUNS;
+
 // A delay of some slots, of QMF bands from `first` on: its memory is a ring of rows, of which the one at `position` is the oldest.
 #[derive(Clone, Copy)]
 pub struct Delay {
@@ -27,7 +29,7 @@ pub struct Span {
 
 // One slot of `count` bands, into both sides.
 fn weigh(
-    runs: &[f64],
+    runs: &[f64; RUNS],
     n: usize,
     factor: f64,
     count: usize,
@@ -36,7 +38,7 @@ fn weigh(
     left: &mut [f64],
     right: &mut [f64],
 )
-    requires runs_len { (length runs.now ≡ 256) × (n < 32) }
+    requires slot { n < 32 }
     requires samples_len { (length samples.now ≡ 2 * count) × (length delayed.now ≡ 2 * count) × (length left.old ≡ 2 * count) × (length right.old ≡ 2 * count) }
     ensures left { (j : ℕ) → j < count → cell 1 left.new (2 * j)
         ≡ left_of false (matrix_at runs.now n) (cell 1 samples.now (2 * j)) (scaled (cell 1 delayed.now (2 * j)) factor) }
@@ -67,52 +69,46 @@ fn weigh(
 pub fn bands(
     span: Span,
     slots: usize,
-    runs: &[f64],
+    runs: &[f64; RUNS],
     gains: &[f64],
     input: &[f64],
     before: &[f64],
     left: &mut [f64],
     right: &mut [f64],
 )
-    requires runs_len { (length runs.now ≡ 256) × (length gains.now ≡ 32) }
+    requires gains_len { length gains.now ≡ 32 }
     requires frame { Frame slots input.now left.old right.old × Before span.delay span.from span.count before.now }
     ensures left { Banded span.from span.count slots (mixed_at span.delay before.now input.now
         left_of (matrix_at runs.now) (λ n. get_or gains.now n nan)) left.old left.new }
     ensures right { Banded span.from span.count slots (mixed_at span.delay before.now input.now
         right_of (matrix_at runs.now) (λ n. get_or gains.now n nan)) right.old right.new }
 {
-    let delay = span.delay;
-    let from = span.from;
-    let count = span.count;
+    let Span {
+        from,
+        count,
+        delay,
+        ..
+    } = span;
     let wide = 2 * count;
     let column = 2 * (from - delay.first);
     for n in 0..slots {
         let at = 128 * n + 2 * from;
-        let factor = gains[n];
-        if n < delay.slots {
+        let delayed = if n < delay.slots {
             let then = 24 * ((delay.position + n) % 14) + column;
-            weigh(
-                runs,
-                n,
-                factor,
-                count,
-                &input[at..at + wide],
-                &before[then..then + wide],
-                &mut left[at..at + wide],
-                &mut right[at..at + wide],
-            );
+            &before[then..then + wide]
         } else {
             let then = 128 * (n - delay.slots) + 2 * from;
-            weigh(
-                runs,
-                n,
-                factor,
-                count,
-                &input[at..at + wide],
-                &input[then..then + wide],
-                &mut left[at..at + wide],
-                &mut right[at..at + wide],
-            );
-        }
+            &input[then..then + wide]
+        };
+        weigh(
+            runs,
+            n,
+            gains[n],
+            count,
+            &input[at..at + wide],
+            delayed,
+            &mut left[at..at + wide],
+            &mut right[at..at + wide],
+        );
     }
 }

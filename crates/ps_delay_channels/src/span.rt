@@ -11,7 +11,7 @@ ghost use Rattle.ps_delay_channels.specs.Spans.{long_delay, short_delay, Before,
 use super::rows;
 use super::rows::{Delay, Span};
 use layout::{Kind, Layout};
-use ps_stereo_slots::Timing;
+use ps_stereo_slots::{RUNS, Timing};
 
 // What the spans of a delay have in common: the layout, when coefficients change, and the delay.
 #[derive(Clone, Copy)]
@@ -36,7 +36,7 @@ pub fn delay_at(layout: Layout, k: usize, position: usize) -> Delay
             slots: 14,
             first: 23,
             bands: 12,
-            position: position,
+            position,
         },
     }
 }
@@ -47,14 +47,12 @@ fn span_end(map: &[u8; 91], k: usize, end: usize) -> usize
     ensures { ((j : ℕ) → k ≤ j → j < result → get_or map.now j 0 ≡ get_or map.now k 0) × ((k < result) × (result ≤ end)) }
 {
     let band = map[k];
-    let mut next = k + 1;
-    while next < end {
+    for next in k + 1..end {
         if map[next] != band {
             return next;
         }
-        next += 1;
     }
-    next
+    end
 }
 
 // A span: its band's coefficients slot by slot, and both sides.
@@ -66,7 +64,7 @@ fn mix_span(
     gains: &[f64],
     rows: &[f64],
     before: &[f64],
-    runs: &mut [f64; 256],
+    runs: &mut [f64; RUNS],
     left: &mut [f64],
     right: &mut [f64],
 )
@@ -78,10 +76,17 @@ fn mix_span(
     ensures right { Banded span.from span.count timing.slots (side_in span.delay before.now input.now
         timing gains.now rows.now right_of span.band) right.old right.new }
 {
-    let borders = timing.borders;
     let slots = timing.slots;
     let band = span.band;
-    ps_stereo_slots::interpolate(rows, fractions, borders, timing.count, band, slots, runs);
+    ps_stereo_slots::interpolate(
+        rows,
+        fractions,
+        timing.borders,
+        timing.count,
+        band,
+        slots,
+        runs,
+    );
     let at = 32 * band;
     rows::bands(
         span,
@@ -105,7 +110,7 @@ pub fn each(
     gains: &[f64],
     rows: &[f64],
     before: &[f64],
-    runs: &mut [f64; 256],
+    runs: &mut [f64; RUNS],
     left: &mut [f64],
     right: &mut [f64],
 )
@@ -118,21 +123,22 @@ pub fn each(
     ensures right { Banded common.delay.first common.delay.bands common.timing.slots (side_from common.delay before.now input.now
         common.timing gains.now rows.now right_of common.layout) right.old right.new }
 {
-    let layout = common.layout;
-    let timing = common.timing;
+    let Common {
+        layout,
+        timing,
+        delay,
+    } = common;
     let map = ps_map::parameter_map(layout);
-    let delay = common.delay;
     let end = start + delay.bands;
     let mut k = start;
+    // Kept: a turn goes on where its span ends, which no range or iterator counts.
     while k < end {
         let next = span_end(&map, k, end);
-        let band = limits::wide(map[k]);
-        let from = delay.first + (k - start);
         let span = Span {
-            band: band,
-            from: from,
+            band: usize::from(map[k]),
+            from: delay.first + (k - start),
             count: next - k,
-            delay: delay,
+            delay,
         };
         mix_span(
             span, timing, fractions, input, gains, rows, before, runs, left, right,

@@ -4,7 +4,7 @@
 mod lines;
 
 ghost use Rattle.std.specs.Prelude.{◌≡◌, length};
-ghost use Rattle.ps_memory.specs.Place.{numbers, head_long, sound_at, layout_in, wide, slots_in, turn_in, head_image, small_image, carried_in, loaded_from, stored_in, started_in};
+ghost use Rattle.ps_memory.specs.Place.{numbers, head_long, sound_at, layout_in, slots_in, turn_in, head_image, small_image, carried_in, loaded_from, stored_in, started_in};
 
 use layout::Layout;
 use ps_state::PsCarried;
@@ -14,7 +14,7 @@ const LINES: usize = 4;
 
 const PHASES: usize = LINES + lines::LONG;
 
-pub const SOUND: usize = PHASES + 68;
+pub const SOUND: usize = PHASES + ps_stereo::PHASES / 2;
 
 pub const NUMBERS: usize = SOUND + ps_state::SOUND;
 
@@ -35,36 +35,29 @@ fn layout_in(x: f64) -> Layout
     }
 }
 
-fn is_wide(layout: Layout) -> bool
-    ensures { result ≡ wide layout }
-{
-    match layout {
-        Layout::Bands20 => false,
-        Layout::Bands34 => true,
-    }
-}
-
 // The single numbers. The slots are kept as they act, 6 to 32, and the turn as it counts, 0 to 419.
 fn store_head(layout: Layout, cued: bool, asked: usize, turn: usize, to: &mut [f64])
     requires { length to.old ≡ head_long }
     ensures { to.new ≡ head_image layout cued asked turn }
 {
-    to[0] = exact_numbers::kept_flag(is_wide(layout));
-    to[1] = exact_numbers::kept_flag(cued);
-    to[2] = exact_numbers::kept_number(borders::slots(asked) as u16);
-    to[3] = exact_numbers::kept_number((turn % 420) as u16);
+    to.copy_from_slice(&[
+        exact_numbers::kept_flag(layout == Layout::Bands34),
+        exact_numbers::kept_flag(cued),
+        exact_numbers::kept_number(borders::slots(asked) as u16),
+        exact_numbers::kept_number((turn % 420) as u16),
+    ]);
 }
 
 fn slots_in(x: f64) -> usize
     ensures { result ≡ slots_in x }
 {
-    borders::slots(exact_numbers::number(x, 32) as usize)
+    borders::slots(usize::from(exact_numbers::number(x, 32)))
 }
 
 fn turn_in(x: f64) -> usize
     ensures { result ≡ turn_in x }
 {
-    exact_numbers::number(x, 419) as usize
+    usize::from(exact_numbers::number(x, 419))
 }
 
 // What is small in the state that a memory holds.
@@ -72,14 +65,14 @@ fn load_small(memory: &[f64]) -> PsCarried
     requires { length memory.now ≡ numbers }
     ensures { result ≡ carried_in memory.now }
 {
-    let mut phases = [0i8; 136];
+    let mut phases = [0; ps_stereo::PHASES];
     lines::unpack(&memory[PHASES..SOUND], &mut phases);
     PsCarried {
         asked: slots_in(memory[2]),
         layout: layout_in(memory[0]),
         cued: exact_numbers::flag(memory[1]),
         lines: lines::load(&memory[LINES..PHASES]),
-        phases: phases,
+        phases,
         turn: turn_in(memory[3]),
     }
 }
@@ -99,11 +92,9 @@ fn store_small(carried: PsCarried, to: &mut [f64])
     ensures { to.new ≡ small_image carried }
 {
     lines::pack(&carried.phases, &mut to[PHASES..SOUND]);
-    let lines = carried.lines;
-    lines::store(lines, &mut to[LINES..PHASES]);
-    let layout = carried.layout;
+    lines::store(carried.lines, &mut to[LINES..PHASES]);
     store_head(
-        layout,
+        carried.layout,
         carried.cued,
         carried.asked,
         carried.turn,
@@ -125,7 +116,7 @@ pub fn start(asked: usize, memory: &mut [f64])
     ensures { memory.new ≡ started_in asked memory.old }
 {
     if memory.len() == NUMBERS {
-        ps_state::silence(&mut memory[SOUND..NUMBERS]);
+        memory[SOUND..NUMBERS].fill(0.0);
         store_small(ps_state::fresh_carried(asked), &mut memory[0..SOUND]);
     }
 }

@@ -24,11 +24,9 @@ pub fn unpack(from: &[f64], to: &mut [i8])
     requires { length to.old ≡ 2 * length from.now }
     ensures { to.new ≡ unpacked (length from.now) from.now }
 {
-    let mut i = 0;
-    while i < from.len() {
-        to[2 * i] = exact_numbers::first_index(from[i]);
-        to[2 * i + 1] = exact_numbers::second_index(from[i]);
-        i += 1;
+    // Kept: two places are written by their number, for chunks_exact_mut says nothing of what the list holds after the loop.
+    for (i, x) in from.iter().enumerate() {
+        to[2 * i..2 * i + 2].copy_from_slice(&exact_numbers::indices(*x));
     }
 }
 
@@ -36,10 +34,8 @@ pub fn pack(from: &[i8], to: &mut [f64])
     requires { length from.now ≡ 2 * length to.old }
     ensures { to.new ≡ packed (length to.old) from.now }
 {
-    let mut i = 0;
-    while i < to.len() {
-        to[i] = exact_numbers::kept_pair(from[2 * i], from[2 * i + 1]);
-        i += 1;
+    for (i, x) in to.iter_mut().enumerate() {
+        *x = exact_numbers::kept_pair(from[2 * i], from[2 * i + 1]);
     }
 }
 
@@ -47,10 +43,10 @@ fn load_row(from: &[f64]) -> Row
     requires { length from.now ≡ row_long }
     ensures { result ≡ row_of from.now }
 {
-    let mut at = [0i8; 34];
+    let mut at = [0; 34];
     unpack(&from[1..ROW_LONG], &mut at);
     Row {
-        at: at,
+        at,
         used: exact_numbers::number(from[0], 34),
     }
 }
@@ -82,14 +78,9 @@ pub fn store(lines: PsLines, to: &mut [f64])
     requires { length to.old ≡ lines_long }
     ensures { to.new ≡ lines_image lines }
 {
-    let rows = lines.rows;
-    let opd = rows.opd;
-    store_row(opd, &mut to[OPD..LONG]);
-    let ipd = rows.ipd;
-    store_row(ipd, &mut to[IPD..OPD]);
-    let icc = rows.icc;
-    store_row(icc, &mut to[ICC..IPD]);
-    let iid = rows.iid;
-    store_row(iid, &mut to[IID..ICC]);
+    store_row(lines.rows.opd, &mut to[OPD..LONG]);
+    store_row(lines.rows.ipd, &mut to[IPD..OPD]);
+    store_row(lines.rows.icc, &mut to[ICC..IPD]);
+    store_row(lines.rows.iid, &mut to[IID..ICC]);
     to[0] = exact_numbers::kept_flag(lines.configured);
 }

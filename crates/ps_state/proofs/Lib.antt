@@ -7,3 +7,4 @@ pub mod Lent
 pub mod Readied
 pub mod Laid
 pub mod Steps
+pub mod Layouts

@@ -1,16 +1,24 @@
 -- `ps_state::ready` meets its contract: switched, then the delays cleared from the place on. Assumes nothing.
-use borrow.Author.Rules.{rules}
+use mathlib.Core.Path.{ap, ◌∙◌}
+use mathlib.Core.List.{List}
+use native.Mathlib.Omega.{arith}
+use lib.Ieee.{Float}
 use borrow.Author.Tests.{ne_eqb}
-use Rattle.ps_state.specs.Ready.{ready_in}
+use Rattle.ps_state.specs.State.{sound_long, decoder_in}
+use Rattle.ps_state.specs.Ready.{ready_in, switched_from}
 use Rattle.ps_state.proofs.Steps.{made_ready}
+use lib.ListN.{length}
 use Rattle.ps_state.proofs.ready.Goals as goal
 
-pub returns-then-sound-ne-SOUND : goal.returns-then-sound-ne-SOUND
+pub returns-in_default : goal.returns-in_default
 unfolding ready_in
-returns-then-sound-ne-SOUND c = rw (ne_eqb _ _ c.if-sound-ne-SOUND.true)
+returns-in_default c = rw (ne_eqb (length c.args.sound.now) sound_long c.in_default.ensures.cases)
 
 pub returns : goal.returns
 returns c =
     let a = c.args in
-    made_ready a.layout c.cleared_place-place.result c.switched-after.result c.switched-after.new.sound _ _ c.switched-after.ensures.long c.reset_chains.ensures
-    c.reset_plain.ensures a.edge c.cleared_place-place.ensures a.carried a.sound.now c.if-sound-ne-SOUND.false c.switched-after.ensures.state
+    let whole = c.in-Some.ensures.cases in
+    let after = c.switched-after in
+    made_ready a.layout c.cleared_place-place.result after.result after.new.sound _ _ (omega arith) c.reset_chains.ensures
+    c.reset_plain.ensures a.edge c.cleared_place-place.ensures a.carried a.sound.now whole.long
+    (after.ensures ∙ ap (λ (t : List Float). switched_from a.layout (decoder_in a.carried t)) whole.same)

@@ -1,18 +1,22 @@
 -- `ps_state::switched` meets its contract: a state of the layout stays, any other loses its history. Assumes nothing.
 use mathlib.Core.Path.{sym, ◌∙◌}
+use native.Mathlib.Omega.{arith}
 use borrow.Author.Rules.{rules}
+use lib.Ieee.{of_bits}
 use Rattle.ps_state.specs.Ready.{switched_from}
-use Rattle.ps_state.proofs.Steps.{changed_decoder, changed_length}
+use Rattle.ps_state.proofs.Layouts.{equal_is}
+use Rattle.ps_state.proofs.Steps.{changed_decoder}
 use Rattle.ps_state.proofs.switched.Goals as goal
 
-pub returns-then-same : goal.returns-then-same
+pub returns-then-eq : goal.returns-then-eq
 unfolding switched_from
-returns-then-same c = record { state = rw (sym c.same.ensures ∙ c.if-same.true); long = c.requires }
+returns-then-eq c =
+    let a = c.args in
+    rw (sym (equal_is a.carried.layout a.layout c.eq.ensures) ∙ c.if-eq.true)
 
 pub returns : goal.returns
+unfolding of_bits
 returns c =
     let a = c.args in
-    record {
-      state = changed_decoder a.layout a.carried a.sound.now _ _ c.requires c.silence.ensures c.remap.ensures (sym c.same.ensures ∙ c.if-same.false);
-      long = changed_length a.layout a.carried a.sound.now _ _ c.requires c.silence.ensures c.remap.ensures;
-    }
+    changed_decoder a.layout a.carried a.sound.now _ _ (omega arith) (c.fill.ensures.after (search rules)) c.remap.ensures
+    (sym (equal_is a.carried.layout a.layout c.eq.ensures) ∙ c.if-eq.false)

@@ -1,9 +1,12 @@
 -- `ps_delay_channels::rows::bands` meets its contract: after n turns the run of bands is mixed in the first n slots. Assumes nothing.
-use mathlib.Core.Path.{◌≡◌}
+use mathlib.Core.Path.{◌≡◌, ap, ◌∙◌}
+use Rattle.std.proofs.Common.{Bor}
+use Rattle.lists.specs.Part.{part}
 use mathlib.Core.List.{List}
 use Prim.Native.Nat.{ℕ, ◌+◌, ◌*◌, ◌-◌, ◌%◌, ◌<◌, ◌≤◌}
 use borrow.Author.Rules.{rules}
 use native.Mathlib.Omega.{arith}
+use lib.ListN.{length}
 use lib.Ieee.{Float}
 use Rattle.standard.specs.Mixing.{left_of, right_of}
 use Rattle.ps_delay_channels.specs.declared.rows.Delay.{Delay}
@@ -21,27 +24,19 @@ weigh-requires c =
     let d = a.span.delay in
     let k = 2 * a.span.count in
     let at = 128 * n + 2 * a.span.from in
-    let then = 24 * ((d.position + n) % 14) + 2 * (a.span.from - d.first) in record {
-      runs_len = (c.requires.runs_len.0, omega arith);
+    let delayed_long : length c.if-n-delay.delayed.now ≡ k = elim c.if-n-delay.branch [
+      | then-n-delay w ↦
+          let then = 24 * ((d.position + n) % 14) + 2 * (a.span.from - d.first) in
+          ap (λ (b : Bor (List Float)). length b.now) w.delayed-is ∙ lent_long then k (then + k - then) a.before.now (width then k) (row_room n c.requires.frame.1 w.if-n-delay.true)
+      | else-n-delay w ↦
+          let then = 128 * (n - d.slots) + 2 * a.span.from in
+          ap (λ (b : Bor (List Float)). length b.now) w.delayed-is ∙ lent_long then k (then + k - then) a.input.now (width then k) (omega arith)
+    ] in
+    record {
+      slot = omega arith;
       samples_len = (
         lent_long at k (at + k - at) a.input.now (width at k) (omega arith),
-        lent_long then k (then + k - then) a.before.now (width then k) (row_room n c.requires.frame.1 c.if-n-delay.true),
-        lent_long at k (at + k - at) c.loop-n.left (width at k) (omega (arith, c.loop-n.invariant.lefts.long)),
-        lent_long at k (at + k - at) c.loop-n.right (width at k) (omega (arith, c.loop-n.invariant.rights.long)),
-      );
-    }
-
-pub weigh-requires-else-n-delay : goal.weigh-requires-else-n-delay
-weigh-requires-else-n-delay c =
-    let a = c.args in
-    let n = c.loop-n.n in
-    let k = 2 * a.span.count in
-    let at = 128 * n + 2 * a.span.from in
-    let then = 128 * (n - a.span.delay.slots) + 2 * a.span.from in record {
-      runs_len = (c.requires.runs_len.0, omega arith);
-      samples_len = (
-        lent_long at k (at + k - at) a.input.now (width at k) (omega arith),
-        lent_long then k (then + k - then) a.input.now (width then k) (omega arith),
+        delayed_long,
         lent_long at k (at + k - at) c.loop-n.left (width at k) (omega (arith, c.loop-n.invariant.lefts.long)),
         lent_long at k (at + k - at) c.loop-n.right (width at k) (omega (arith, c.loop-n.invariant.rights.long)),
       );
@@ -62,33 +57,31 @@ loop-n-preserved c =
     elim c.if-n-delay.branch [
       | then-n-delay w ↦
           let then = 24 * ((d.position + n) % 14) + 2 * (from - d.first) in
+          let now : c.if-n-delay.delayed.now ≡ part then (then + k - then) a.before.now = ap (λ (b : Bor (List Float)). b.now) w.delayed-is in
           record {
             reached = omega (arith, more);
             lefts =
-                rw w.left-is
-                (banding_kept left_of a.runs.now a.gains.now a.input.now a.before.now d from count a.slots
+                banding_kept left_of a.runs.now a.gains.now a.input.now a.before.now d from count a.slots
                 c.loop-n.invariant.lefts rows frame.left_long more (at + k - at) (then + k - then) (width at k) (width then k)
-                w.weigh.new.left w.weigh.auto.left w.if-n-delay.true w.weigh.ensures.left);
+                c.weigh.new.left c.weigh.auto.left w.if-n-delay.true (rw now at c.weigh.ensures.left);
             rights =
-                rw w.right-is
-                (banding_kept right_of a.runs.now a.gains.now a.input.now a.before.now d from count a.slots
+                banding_kept right_of a.runs.now a.gains.now a.input.now a.before.now d from count a.slots
                 c.loop-n.invariant.rights rows frame.right_long more (at + k - at) (then + k - then) (width at k) (width then k)
-                w.weigh.new.right w.weigh.auto.right w.if-n-delay.true w.weigh.ensures.right);
+                c.weigh.new.right c.weigh.auto.right w.if-n-delay.true (rw now at c.weigh.ensures.right);
           }
       | else-n-delay w ↦
           let then = 128 * (n - d.slots) + 2 * from in
+          let now : c.if-n-delay.delayed.now ≡ part then (then + k - then) a.input.now = ap (λ (b : Bor (List Float)). b.now) w.delayed-is in
           record {
             reached = omega (arith, more);
             lefts =
-                rw w.left-is
-                (banding_came left_of a.runs.now a.gains.now a.input.now a.before.now d from count a.slots
+                banding_came left_of a.runs.now a.gains.now a.input.now a.before.now d from count a.slots
                 c.loop-n.invariant.lefts rows frame.left_long more (at + k - at) (then + k - then) (width at k) (width then k)
-                w.weigh-else-n-delay.new.left w.weigh-else-n-delay.auto.left w.if-n-delay.false w.weigh-else-n-delay.ensures.left);
+                c.weigh.new.left c.weigh.auto.left w.if-n-delay.false (rw now at c.weigh.ensures.left);
             rights =
-                rw w.right-is
-                (banding_came right_of a.runs.now a.gains.now a.input.now a.before.now d from count a.slots
+                banding_came right_of a.runs.now a.gains.now a.input.now a.before.now d from count a.slots
                 c.loop-n.invariant.rights rows frame.right_long more (at + k - at) (then + k - then) (width at k) (width then k)
-                w.weigh-else-n-delay.new.right w.weigh-else-n-delay.auto.right w.if-n-delay.false w.weigh-else-n-delay.ensures.right);
+                c.weigh.new.right c.weigh.auto.right w.if-n-delay.false (rw now at c.weigh.ensures.right);
           }
     ]
 

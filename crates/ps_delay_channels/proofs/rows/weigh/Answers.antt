@@ -26,7 +26,7 @@ pub loop-j-preserved : goal.loop-j-preserved
 loop-j-preserved c =
     let a = c.args in
     let j = c.loop-j.j in
-    let few : a.n < 32 = c.requires.runs_len.1 in
+    let few : a.n < 32 = c.requires.slot in
     let more : j < a.count = c.loop-j-test.true in
     let x = cell 1 a.samples.now (2 * j) in
     let z = scaled (cell 1 a.delayed.now (2 * j)) a.factor in

@@ -36,8 +36,8 @@ bounds-map-k c =
     let m = bounds c.args.common.layout in
     omega (arith, c.requires.layout_bound.1, c.loop-k-test.true)
 
-pub overflow_add-from : goal.overflow_add-from
-overflow_add-from c =
+pub overflow_add-span : goal.overflow_add-span
+overflow_add-span c =
     let m = bounds c.args.common.layout in
     let r = c.requires.layout_bound in
     omega (arith, r.1, r.2, r.0, c.loop-k-test.true)
@@ -47,7 +47,7 @@ mix_span-requires c =
     let a = c.args in
     let k = c.loop-k.k in
     let v = c.loop-k.invariant in
-    let band : c.wide-band.result ≡ band_of a.common.layout k = c.wide-band.ensures ∙ ap (λ (c : List ℕ). get_or c k 0) c.parameter_map-map.ensures in
+    let band : c.from.result ≡ band_of a.common.layout k = c.from.ensures ∙ ap (λ (c : List ℕ). get_or c k 0) c.parameter_map-map.ensures in
     let small = band_small a.common.layout k in record {
       fractions = (c.requires.fractions.0, rw band (band_below a.common.layout k));
       band_in_bounds = (omega (arith, c.requires.layout_in_bounds.0, band, small), omega (arith, c.requires.layout_in_bounds.1, band, small));
@@ -64,7 +64,7 @@ loop-k-smaller c =
 pub loop-k-preserved : goal.loop-k-preserved
 loop-k-preserved c =
     let v = c.loop-k.invariant in
-    spanning_more _ _ _ _ _ _ _ _ _ _ _ c.span_end-next.ensures.0 c.wide-band.ensures v.low c.span_end-next.ensures.1.0 c.span_end-next.ensures.1.1 v
+    spanning_more _ _ _ _ _ _ _ _ _ _ _ c.span_end-next.ensures.0 c.from.ensures v.low c.span_end-next.ensures.1.0 c.span_end-next.ensures.1.1 v
     c.mix_span.ensures.left c.mix_span.ensures.right
 
 pub shape_of-left : goal.shape_of-left

@@ -12,7 +12,7 @@ pub bands-requires : goal.bands-requires
 bands-requires c =
     let s = c.args in
     let band = s.span.band in
-    record { runs_len = (search rules, rw (add-sub_cancel_left (32 * band) 32) (part_length (32 * band) 32 s.gains.now c.requires.band_in_bounds.0)); frame = c.requires.frame }
+    record { gains_len = rw (add-sub_cancel_left (32 * band) 32) (part_length (32 * band) 32 s.gains.now c.requires.band_in_bounds.0); frame = c.requires.frame }
 
 pub shape_of-left : goal.shape_of-left
 shape_of-left c = c.bands.ensures.left.long

@@ -14,6 +14,3 @@ Alike map k end = (j : ℕ) → k ≤ j → j < end → get_or map j 0 ≡ get_o
 
 abbrev pub invariant-loop-next : goal.invariant-loop-next
 invariant-loop-next l = Alike l.map l.k l.next × ((l.k < l.next) × (l.next ≤ l.end))
-
-abbrev pub decreases-loop-next : goal.decreases-loop-next
-decreases-loop-next l = l.end - l.next

@@ -1,13 +1,7 @@
 -- `ps_memory::lines::store` meets its contract: the rows are stored from the last to the first, then the flag before them. Assumes nothing.
-use mathlib.Core.Path.{◌∙◌}
-use lib.ListN.{length-set}
 use borrow.Author.Rules.{rules}
 use Rattle.ps_memory.proofs.Laid.{lines_laid}
 use Rattle.ps_memory.proofs.lines.store.Goals as goal
-
-pub shape_of-to : goal.shape_of-to
-shape_of-to c =
-    simp length-set (c.to-4-1.given.1 ∙ c.to-3-1.given.1 ∙ c.to-2-1.given.1 ∙ c.to-1.given.1)
 
 pub returns : goal.returns
 returns c =
