@@ -1,6 +1,7 @@
 -- Document 01, 'The cue line': the number of each answer. Assumes nothing.
-use Rattle.std.specs.Prelude.{ℕ}
+use Rattle.std.specs.Prelude.{◌≡◌, ℕ, ◌<◌, Result, MatchResult}
 use Rattle.answer.specs.declared.Answer.{Answer}
+use Rattle.answer.specs.declared.NoAnswer.{NoAnswer}
 use Rattle.answer.specs.declared.Answer.TheVariants.{Done, Quiet, Character, Length, Field, Buffers, Sample}
 
 abbrev pub number_of : Answer → ℕ
@@ -18,3 +19,7 @@ number_of Field = 4
 number_of Buffers = 5
 -- a sample that is not finite, or above 1,048,576 in magnitude
 number_of Sample = 6
+
+-- which answer a number is: none above 6 is one
+abbrev pub Numbered : ℕ → Result Answer NoAnswer → Type 0
+Numbered n r = MatchResult r (λ a. number_of a ≡ n) (λ _. 6 < n)

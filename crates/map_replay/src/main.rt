@@ -23,7 +23,7 @@ fn signed(byte: u8) -> i8 {
 
 // The answer and the mapped row are the record's.
 fn says(record: &[u8; RECORD], answer: Answer, mapped: &[i8; 34]) -> bool {
-    answer.number() == record[42]
+    u8::from(answer) == record[42]
         && record[43..]
             .iter()
             .zip(mapped)
