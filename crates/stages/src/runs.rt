@@ -4,7 +4,7 @@ ghost use Rattle.std.specs.Prelude.{◌≡◌, ◌≤◌, length};
 use super::both::Both;
 use super::sheet::Wanted;
 use super::{both, carried};
-use run_stream::head::Head;
+use run_stream::head::{Head, Kind};
 use run_stream::{head, input};
 use std::io::Read;
 
@@ -25,7 +25,7 @@ fn stopped(before: Run, whole: bool) -> Run {
 
 // A side of the stream is passed over.
 fn passed(reader: &mut impl Read, count: usize, bytes: &mut [u8]) -> bool {
-    input::fill(reader, bytes, 8 * limits::least(count, head::SIDE))
+    input::fill(reader, bytes, 8 * limits::least(count, head::SIDE)).is_some()
 }
 
 fn play(
@@ -108,7 +108,7 @@ fn call(
     if !record.fits() {
         return stopped(before, false);
     }
-    if !input::load(reader, record, line, bytes, samples) {
+    if input::load(reader, record, line, bytes, samples).is_none() {
         return stopped(before, false);
     }
     play_on(
@@ -128,20 +128,21 @@ fn step(
 ) -> Run
     requires { length state.old ≡ 4325 }
 {
-    let record = input::next_head(reader, bytes);
-    let kind = record.kind;
-    match kind {
-        0 => stopped(before, true),
-        1 => {
+    let Some(record) = input::next_head(reader, bytes) else {
+        return stopped(before, false);
+    };
+    match record.kind {
+        Ok(Kind::End) => stopped(before, true),
+        Ok(Kind::Run) => {
             let now = before.both;
             let mut after = before;
             after.both = both::started(now, record.number, memory, state);
             after
         }
-        2 => call(
+        Ok(Kind::Call) => call(
             rt, reader, before, record, line, bytes, samples, memory, state,
         ),
-        _ => stopped(before, false),
+        Err(_) => stopped(before, false),
     }
 }
 
