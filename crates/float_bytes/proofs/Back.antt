@@ -1,13 +1,13 @@
 -- Written and read again: the same floats. Read and written again: the same bytes, off the NaN patterns. Assumes nothing.
 use mathlib.Core.Path.{◌≡◌, refl, sym, ap, ◌∙◌, subst}
 use mathlib.Core.List.{List, [], ◌∷◌, ◌++◌}
-use mathlib.Core.Bool.{Bool, true, false, not, ◌&&◌}
+use mathlib.Core.Bool.{Bool, not}
 use Prim.Native.Nat.{ℕ, zero, suc, ◌+◌, ◌*◌, ◌<◌, ◌≤◌}
 use native.Mathlib.Omega.{arith}
 use lib.Dec.{T}
 use lib.ListN.{length, get_or, drop, length-drop}
 use lib.Seq.{get_or-drop}
-use lib.Ieee.{Float, binary64, fits, is_nan, nan_bits, of_bits, to_bits}
+use lib.Ieee.{Float, binary64, fits, nan_bits, of_bits, to_bits}
 use lib.Ieee.Bits.{of_bits-to_bits, to_bits-lt, to_bits-of_bits, nan_bits_is}
 use Rattle.float_bytes.specs.Bytes.{word, four, eight, floats_of, bytes_of}
 use Rattle.float_bytes.proofs.Numbers.{word_eight, word_small, eight_word}

@@ -1,51 +1,85 @@
--- One turn of the loop that reads, and of the loop that writes. Assumes nothing.
-use mathlib.Core.Path.{◌≡◌, refl, sym, ap, ◌∙◌}
-use mathlib.Core.List.{List, [], ◌∷◌, ◌++◌, append_assoc, append-nil}
-use Prim.Native.Nat.{ℕ, suc, ◌+◌, ◌-◌, ◌*◌, ◌≤◌, ◌<◌}
+-- The library's words for bytes against the definitions', and rows of floats and of bytes, eight bytes at a time. Assumes nothing.
+use mathlib.Core.Path.{◌≡◌, refl}
+use mathlib.Core.List.{List, [], ◌∷◌, ◌++◌, map, append_assoc, append-nil}
+use mathlib.Core.Bool.{Bool, true, false, cond}
+use Prim.Native.Nat.{ℕ, zero, suc, ◌+◌, ◌/◌, ◌%◌, ◌<◌}
 use native.Mathlib.Numerals.{add-one}
 use native.Mathlib.Omega.{arith}
-use lib.ListN.{length, take, drop, set, get_or, drop_of_length-le}
-use lib.Seq.{drop-cons, drop-drop, take_all}
+use mir.Syntax.{w32, w64}
+use lib.Dec.{leb}
+use lib.ListN.{length, take, drop, get_or, replicate}
+use lib.Seq.{get_or-take, get_or-drop, take-suc}
 use lib.Ieee.{Float, nan, binary64, of_bits, to_bits}
-use Rattle.lists.proofs.Fills.{grown}
-use Rattle.float_bytes.specs.Bytes.{word, four, eight, floats_of, bytes_of}
-use Rattle.float_bytes.proofs.Stores.{put, put_front}
+use Rattle.std.specs.Int.{from_le_bytes, to_le_bytes}
+use Rattle.std.specs.Simd.{first_chunks}
+use Rattle.float_bytes.specs.Bytes.{half, word, bytes_at, half_at, word_at, four, eight, floats_of, bytes_of}
 
-pub floats_turn : (b : List ℕ) (out : List Float) (i n : ℕ) (v : Float) (w : List Float)
-    → i < n → i < length out → v ≡ of_bits binary64 (word (drop (i * 8) b))
-    → take i out ++ floats_of (n - i) (drop (i * 8) b) ≡ w
-    → take (i + 1) (set out i v) ++ floats_of (n - (i + 1)) (drop ((i + 1) * 8) b) ≡ w
+pub half_le : (l : List ℕ) → from_le_bytes w32 (take 4 l) ≡ half l
+unfolding half
+half_le l =
+    rw (get_or-take 4 l 0 0 (omega arith), get_or-take 4 l 1 0 (omega arith), get_or-take 4 l 2 0 (omega arith), get_or-take 4 l 3 0 (omega arith)) (omega arith)
+
+pub word_le : (l : List ℕ) → from_le_bytes w64 (take 8 l) ≡ word l
+unfolding word half
+word_le l =
+    rw (
+      get_or-take 8 l 0 0 (omega arith),
+      get_or-take 8 l 1 0 (omega arith),
+      get_or-take 8 l 2 0 (omega arith),
+      get_or-take 8 l 3 0 (omega arith),
+      get_or-take 8 l 4 0 (omega arith),
+      get_or-take 8 l 5 0 (omega arith),
+      get_or-take 8 l 6 0 (omega arith),
+      get_or-take 8 l 7 0 (omega arith),
+    )
+    (omega (arith, get_or-drop 4 l 0 0, get_or-drop 4 l 1 0, get_or-drop 4 l 2 0, get_or-drop 4 l 3 0))
+
+pub eight_le : (n : ℕ) → to_le_bytes w64 n ≡ eight n
+unfolding eight four
+eight_le n =
+    let low : ℕ = n % 4294967296 in
+    let high : ℕ = n / 4294967296 in
+    let e0 : n % 256 ≡ low % 256 = omega arith in
+    let e1 : n / 256 % 256 ≡ low / 256 % 256 = omega arith in
+    let e2 : n / 65536 % 256 ≡ low / 256 / 256 % 256 = omega arith in
+    let e3 : n / 16777216 % 256 ≡ low / 256 / 256 / 256 % 256 = omega arith in
+    let e5 : n / 1099511627776 % 256 ≡ high / 256 % 256 = omega arith in
+    let e6 : n / 281474976710656 % 256 ≡ high / 256 / 256 % 256 = omega arith in
+    let e7 : n / 72057594037927936 % 256 ≡ high / 256 / 256 / 256 % 256 = omega arith in
+    rw (e0, e1, e2, e3, e5, e6, e7)
+
+-- ---- of those from a place on, or zeros
+pub half_read : (b : List ℕ) (at : ℕ) → from_le_bytes w32 (bytes_at 4 b at) ≡ half_at b at
+unfolding half_at
+half_read b at = go (leb (at + 4) (length b))
+  where
+    go : (t : Bool) → from_le_bytes w32 (cond t (take 4 (drop at b)) (replicate 4 0)) ≡ cond t (half (drop at b)) 0
+    go true = half_le (drop at b)
+    go false = refl
+
+pub word_read : (b : List ℕ) (at : ℕ) → from_le_bytes w64 (bytes_at 8 b at) ≡ word_at b at
+unfolding word_at
+word_read b at = go (leb (at + 8) (length b))
+  where
+    go : (t : Bool) → from_le_bytes w64 (cond t (take 8 (drop at b)) (replicate 8 0)) ≡ cond t (word (drop at b)) 0
+    go true = word_le (drop at b)
+    go false = refl
+
+-- ---- rows
+abbrev pub float_in : List ℕ → Float
+float_in w = of_bits binary64 (from_le_bytes w64 w)
+
+pub floats_chunks : (k : ℕ) (b : List ℕ) → map float_in (first_chunks 8 k b) ≡ floats_of k b
 unfolding floats_of
-floats_turn b out i n v w h k p e =
-    let s : n - i ≡ suc (n - (i + 1)) = omega arith in
-    let m : i * 8 + 8 ≡ (i + 1) * 8 = omega arith in
-    let d : drop 8 (drop (i * 8) b) ≡ drop ((i + 1) * 8) b = drop-drop 8 (i * 8) b ∙ ap (λ (m : ℕ). drop m b) m in
-    let f : floats_of (n - i) (drop (i * 8) b) ≡ v ∷ floats_of (n - (i + 1)) (drop ((i + 1) * 8) b) =
-    ap (λ (m : ℕ). floats_of m (drop (i * 8) b)) s ∙ rw (p, ← d) in
-    grown out i v (floats_of (n - (i + 1)) (drop ((i + 1) * 8) b)) w k (ap (λ t. take i out ++ t) (sym f) ∙ e)
+floats_chunks zero b = refl
+floats_chunks (suc k) b = rw (word_le b, floats_chunks k (drop 8 b))
 
-pub floats_done : (b : List ℕ) (out : List Float) (i n : ℕ) (w : List Float) → n ≤ i → length out ≤ i
-    → take i out ++ floats_of (n - i) (drop (i * 8) b) ≡ w → out ≡ w
-unfolding floats_of
-floats_done b out i n w h k e =
-    let s : n - i ≡ 0 = omega arith in
-    sym (take_all i out k) ∙ sym (append-nil (take i out)) ∙ ap (λ (m : ℕ). take i out ++ floats_of m (drop (i * 8) b)) (sym s) ∙ e
-
-pub bytes_turn : (xs : List Float) (out : List ℕ) (i : ℕ) (v : ℕ) (w : List ℕ)
-    → i < length xs → i * 8 + 8 ≤ length out → v ≡ to_bits binary64 (get_or xs i nan)
-    → take (i * 8) out ++ bytes_of (drop i xs) ≡ w
-    → take ((i + 1) * 8) (put out (i * 8) (eight v)) ++ bytes_of (drop (i + 1) xs) ≡ w
-unfolding bytes_of eight four
-bytes_turn xs out i v w h k p e =
-    let s : (i + 1) * 8 ≡ i * 8 + length (eight v) = omega arith in
-    let f : bytes_of (drop i xs) ≡ eight v ++ bytes_of (drop (i + 1) xs) = rw (add-one i, drop-cons xs i nan h, p) in
-    ap (λ (m : ℕ). take m (put out (i * 8) (eight v)) ++ bytes_of (drop (i + 1) xs)) s
-    ∙ ap (λ t. t ++ bytes_of (drop (i + 1) xs)) (put_front out (eight v) (i * 8) k)
-    ∙ append_assoc (take (i * 8) out) (eight v) (bytes_of (drop (i + 1) xs))
-    ∙ ap (λ t. take (i * 8) out ++ t) (sym f) ∙ e
-
-pub bytes_done : (xs : List Float) (out : List ℕ) (i : ℕ) (w : List ℕ) → length xs ≤ i → length out ≤ i * 8
-    → take (i * 8) out ++ bytes_of (drop i xs) ≡ w → out ≡ w
+pub bytes_append : (xs ys : List Float) → bytes_of (xs ++ ys) ≡ bytes_of xs ++ bytes_of ys
 unfolding bytes_of
-bytes_done xs out i w h k e =
-    sym (take_all (i * 8) out k) ∙ sym (append-nil (take (i * 8) out)) ∙ ap (λ t. take (i * 8) out ++ bytes_of t) (sym (drop_of_length-le xs h)) ∙ e
+bytes_append [] ys = refl
+bytes_append (x ∷ xs) ys = rw (bytes_append xs ys, append_assoc)
+
+pub bytes_more : (xs : List Float) (i : ℕ) → i < length xs → bytes_of (take (i + 1) xs) ≡ bytes_of (take i xs) ++ eight (to_bits binary64 (get_or xs i nan))
+unfolding bytes_of
+bytes_more xs i h =
+    rw (add-one, take-suc xs i nan h, bytes_append, append-nil)

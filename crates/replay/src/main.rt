@@ -6,7 +6,7 @@
 mod sides;
 mod text;
 
-use run_stream::head::Head;
+use run_stream::head::{Head, Kind};
 use run_stream::input;
 use std::io::Read;
 use text::Place;
@@ -167,13 +167,11 @@ fn broken(rt: &impl Print, before: Replay) -> Replay {
 
 // A record that is no call: the end, or the start of a run.
 fn step_between(rt: &impl Print, before: Replay, memory: &mut [f64], head: Head) -> Replay {
-    if head.kind == 0 {
-        return ended(rt, before);
+    match head.kind {
+        Ok(Kind::End) => ended(rt, before),
+        Ok(Kind::Run) => begun(before, memory, head.number),
+        _ => broken(rt, before),
     }
-    if head.kind == 1 {
-        return begun(before, memory, head.number);
-    }
-    broken(rt, before)
 }
 
 // A call with what it hands in, which stands behind its head.
@@ -192,7 +190,7 @@ fn step_call(
     if !head.fits() {
         return broken(rt, before);
     }
-    if !input::load(reader, head, line, bytes, input) {
+    if input::load(reader, head, line, bytes, input).is_none() {
         return broken(rt, before);
     }
     call(
@@ -212,13 +210,15 @@ fn step(
     left: &mut [f64],
     right: &mut [f64],
 ) -> Replay {
-    let head = input::next_head(reader, bytes);
-    if head.kind == 2 {
-        return step_call(
+    let Some(head) = input::next_head(reader, bytes) else {
+        return broken(rt, before);
+    };
+    match head.kind {
+        Ok(Kind::Call) => step_call(
             rt, reader, before, memory, head, line, bytes, input, left, right,
-        );
+        ),
+        _ => step_between(rt, before, memory, head),
     }
-    step_between(rt, before, memory, head)
 }
 
 fn main(rt: HostRuntime) {

@@ -88,7 +88,7 @@ fn same(
     wanted: &mut [u8],
 ) -> bool {
     let numbers = limits::least(count, head::SIDE);
-    if !input::fill(reader, wanted, numbers * 8) {
+    if input::fill(reader, wanted, numbers * 8).is_none() {
         text::broken(rt, at);
         return false;
     }

@@ -1,6 +1,6 @@
 // The head of a record, which says what follows it.
 ghost use Rattle.std.specs.Prelude.{◌≡◌};
-ghost use Rattle.run_stream.specs.Heads.{head_of, fits_in};
+ghost use Rattle.run_stream.specs.Heads.{kind_of, head_of, fits_in};
 
 // Its bytes. The last eight, a call's place and count (oracle/README.md, "Streams"), are not looked at.
 pub const SIZE: usize = 56;
@@ -12,10 +12,33 @@ pub const INPUT: usize = 5632;
 
 pub const SIDE: usize = 4352;
 
+// What a record is.
+#[derive(Clone, Copy, Debug, PartialEq, Eq)]
+pub enum Kind {
+    End,
+    Run,
+    Call,
+}
+
+// A byte that is no kind's is the error.
+impl TryFrom<u8> for Kind {
+    type Error = u8;
+
+    ghost try_from_gives = { λ byte kind. kind ≡ kind_of byte };
+
+    fn try_from(byte: u8) -> Result<Kind, u8> {
+        match byte {
+            0 => Ok(Kind::End),
+            1 => Ok(Kind::Run),
+            2 => Ok(Kind::Call),
+            _ => Err(byte),
+        }
+    }
+}
+
 #[derive(Clone, Copy)]
 pub struct Head {
-    // 0 the end, 1 a run, 2 a call.
-    pub kind: u8,
+    pub kind: Result<Kind, u8>,
     pub answer: u8,
     // The spectrum edge of a call, the asked slots of a run.
     pub number: usize,
@@ -33,16 +56,17 @@ pub struct Head {
 }
 
 // The head that the bytes of a record have; what is not there is 0.
+#[tactic(auto, unfolding(crate::specs::Heads::head_of))]
 pub fn read(bytes: &[u8]) -> Head
     ensures { result ≡ head_of bytes.now }
 {
     Head {
-        kind: float_bytes::byte_at(bytes, 0),
+        kind: Kind::try_from(float_bytes::byte_at(bytes, 0)),
         answer: float_bytes::byte_at(bytes, 1),
         number: float_bytes::word_at(bytes, 8) as usize,
         state: float_bytes::half_at(bytes, 4),
         step: float_bytes::float_of(float_bytes::word_at(bytes, 16)),
-        width: float_bytes::byte_at(bytes, 2) as usize,
+        width: usize::from(float_bytes::byte_at(bytes, 2)),
         reach: float_bytes::half_at(bytes, 24) as usize,
         given: float_bytes::half_at(bytes, 28) as usize,
         line: float_bytes::half_at(bytes, 32) as usize,
@@ -57,10 +81,15 @@ impl Head {
     pub fn fits(self) -> bool
         ensures { result ≡ fits_in self }
     {
-        (self.input <= INPUT)
-            & (self.left <= SIDE)
-            & (self.right <= SIDE)
-            & (self.line <= LINE)
-            & (self.given <= INPUT)
+        self.input <= INPUT
+            && self.left <= SIDE
+            && self.right <= SIDE
+            && self.line <= LINE
+            && self.given <= INPUT
+    }
+
+    // The call's sample at a place has noise.
+    pub(crate) fn noisy(self, place: usize) -> bool {
+        place < self.reach && place % 128 < self.width
     }
 }

@@ -2,7 +2,7 @@
 use super::both;
 use super::both::Both;
 use super::play::Call;
-use run_stream::head::Head;
+use run_stream::head::{Head, Kind};
 use run_stream::{head, input};
 use std::io::Read;
 use std::ops::ControlFlow;
@@ -25,8 +25,9 @@ struct Run {
 
 impl Run {
     // A side of the stream is passed over.
-    fn pass(&mut self, reader: &mut impl Read, count: usize) -> bool {
-        input::fill(reader, &mut self.bytes, 8 * count.min(head::SIDE))
+    fn pass(&mut self, reader: &mut impl Read, count: usize) -> Option<()> {
+        input::fill(reader, &mut self.bytes, 8 * count.min(head::SIDE))?;
+        Some(())
     }
 
     fn play(&mut self, rt: &impl Print, record: Head) {
@@ -47,38 +48,40 @@ impl Run {
     }
 
     // A call with what it hands in, which stands behind its head. What an accepted call has behind it, both sides, is passed over.
-    fn call(&mut self, rt: &impl Print, reader: &mut impl Read, record: Head) -> bool {
-        if !record.fits()
-            || !input::load(
-                reader,
-                record,
-                &mut self.line,
-                &mut self.bytes,
-                &mut self.samples,
-            )
-        {
-            return false;
+    fn call(&mut self, rt: &impl Print, reader: &mut impl Read, record: Head) -> Option<()> {
+        if !record.fits() {
+            return None;
         }
+        input::load(
+            reader,
+            record,
+            &mut self.line,
+            &mut self.bytes,
+            &mut self.samples,
+        )?;
         self.play(rt, record);
-        record.answer != 0 || (self.pass(reader, record.left) && self.pass(reader, record.right))
+        if record.answer == 0 {
+            self.pass(reader, record.left)?;
+            self.pass(reader, record.right)?;
+        }
+        Some(())
     }
 
     fn step(&mut self, rt: &impl Print, reader: &mut impl Read) -> ControlFlow<End> {
-        let record = input::next_head(reader, &mut self.bytes);
+        let Some(record) = input::next_head(reader, &mut self.bytes) else {
+            return ControlFlow::Break(End::Broken);
+        };
         match record.kind {
-            0 => ControlFlow::Break(End::Said),
-            1 => {
+            Ok(Kind::End) => ControlFlow::Break(End::Said),
+            Ok(Kind::Run) => {
                 self.both.start(record.number);
                 ControlFlow::Continue(())
             }
-            2 => {
-                if self.call(rt, reader, record) {
-                    ControlFlow::Continue(())
-                } else {
-                    ControlFlow::Break(End::Broken)
-                }
-            }
-            _ => ControlFlow::Break(End::Broken),
+            Ok(Kind::Call) => match self.call(rt, reader, record) {
+                Some(()) => ControlFlow::Continue(()),
+                None => ControlFlow::Break(End::Broken),
+            },
+            Err(_) => ControlFlow::Break(End::Broken),
         }
     }
 

@@ -1,33 +1,29 @@
--- `float_bytes::fill` meets its contract. Assumes nothing.
-use borrow.Author.Rules.{rules}
-use mathlib.Core.Path.{◌≡◌, refl, ap, ◌∙◌}
-use mathlib.Core.List.{List, ◌++◌}
-use Prim.Native.Nat.{ℕ, ◌≤◌, ◌-◌, ◌*◌}
-use native.Mathlib.Nat.{sub-zero}
+-- `float_bytes::fill` meets its contract: each float is that of its eight bytes. Assumes nothing.
+use mathlib.Core.Path.{◌≡◌, ap, ◌∙◌}
+use mathlib.Core.List.{[], map}
+use Prim.Native.Nat.{ℕ, ◌/◌}
 use native.Mathlib.Omega.{arith}
-use lib.ListN.{length, take, drop, length-set}
-use lib.Ieee.{Float, binary64, of_bits}
+use lib.Ieee.{binary64, of_bits}
+use lib.ListN.{length, get_or}
+use Rattle.lists.proofs.Maps.{tabulated_none, tabulated_more, tabulated_all, mapped}
 use Rattle.float_bytes.specs.Bytes.{floats_of}
-use Rattle.float_bytes.proofs.Turns.{floats_turn, floats_done}
+use Rattle.float_bytes.proofs.Turns.{float_in, floats_chunks}
 use Rattle.float_bytes.proofs.fill.Goals as goal
 
 pub loop-i-init : goal.loop-i-init
-loop-i-init c = record { long = refl; low = omega arith; done = ap (λ (n : ℕ). floats_of n c.args.b.now) (sub-zero _) }
+loop-i-init c = tabulated_none (λ k. float_in (get_or c.as_chunks.result.0.now k [])) c.args.out.now
 
 pub loop-i-preserved : goal.loop-i-preserved
 loop-i-preserved c =
-    let a = c.args in
-    let v = c.loop-i.invariant in
-    record {
-      long = length-set c.loop-i.out c.loop-i.i _ ∙ v.long;
-      low = omega arith;
-      done = floats_turn a.b.now c.loop-i.out c.loop-i.i (length a.out.now) _ _ (omega arith) (omega arith) (c.float_of.ensures ∙ ap (of_bits binary64) c.read_word.ensures) v.done;
-    }
-
-pub shape_of-out : goal.shape_of-out
-shape_of-out c = c.loop-i.invariant.long
+    tabulated_more c.loop-i.invariant c.float_of.result (c.float_of.ensures ∙ ap (of_bits binary64) c.from_le_bytes.ensures) (omega arith)
 
 pub returns : goal.returns
 returns c =
-    let a = c.args in
-    floats_done a.b.now c.loop-i.out c.loop-i.i (length a.out.now) _ (omega arith) (omega arith) c.loop-i.invariant.done
+    let b = c.args.b.now in
+    let words = c.as_chunks.result.0.now in
+    let count : length b / 8 ≡ length c.args.out.now = omega (arith, c.requires) in
+    tabulated_all c.loop-i.invariant (length words) (omega arith) (omega (arith, c.as_chunks.ensures.front_len))
+    ∙ mapped float_in words []
+    ∙ ap (map float_in) c.as_chunks.ensures.front
+    ∙ floats_chunks (length b / 8) b
+    ∙ ap (λ (k : ℕ). floats_of k b) count

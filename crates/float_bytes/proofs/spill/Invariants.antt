@@ -1,21 +1,9 @@
-use borrow.Author.Rules.{rules}
-use mathlib.Core.Path.{◌≡◌, refl, ap, ◌∙◌}
-use mathlib.Core.List.{List, ◌++◌}
-use Prim.Native.Nat.{ℕ, ◌≤◌, ◌-◌, ◌*◌}
-use native.Mathlib.Omega.{arith}
-use lib.ListN.{length, take, drop}
-use lib.Ieee.{Float}
-use Rattle.float_bytes.specs.Bytes.{bytes_of, eight, four}
-use Rattle.float_bytes.proofs.Turns.{bytes_turn, bytes_done}
+use Prim.Native.Nat.{◌*◌}
+use lib.ListN.{take}
+use Rattle.lists.proofs.Front.{Front}
+use Rattle.float_bytes.specs.Bytes.{bytes_of}
 use Rattle.float_bytes.proofs.spill.Given as goal
 
-pub record Inv (xs : List Float) (out₀ out : List ℕ) (i : ℕ) : Type 0 where
-  pub long : length out ≡ length out₀
-  pub low : i ≤ length xs
-  pub done : take (i * 8) out ++ bytes_of (drop i xs) ≡ bytes_of xs
-
+-- the first bytes are those of the floats before
 abbrev pub invariant-loop-i : goal.invariant-loop-i
-invariant-loop-i l = Inv l.xs l.initial.out l.out l.i
-
-abbrev pub decreases-loop-i : goal.decreases-loop-i
-decreases-loop-i l = length l.xs - l.i
+invariant-loop-i l = Front (bytes_of (take l.i l.xs)) (8 * l.i) l.initial.out l.out
