@@ -1,8 +1,8 @@
 // Frames: what a run carries from line to line, and what is done for each.
-ghost use Rattle.std.specs.Prelude.{◌≡◌, ◌≤◌, length};
-
 use crate::report;
 use crate::report::Tally;
+use answer::Answer;
+use programme::files::Failed;
 use programme::rows;
 use std::env::Env;
 use std::fs::File;
@@ -12,6 +12,9 @@ pub const LEFT: usize = 5;
 
 pub const RIGHT: usize = 6;
 
+// The numbers of a side, of 32 slots at most.
+const SIDE: usize = 32 * 128;
+
 #[derive(Drop)]
 pub struct Streams {
     pub lines: File,
@@ -20,208 +23,119 @@ pub struct Streams {
     pub right: File,
 }
 
-// What is carried from frame to frame, beside the streams and the memory that the decoder's state lies in.
-#[derive(Clone, Copy)]
+// Why no more is played: a file failed, or the samples ended.
+#[derive(Clone, Copy, Debug, PartialEq, Eq)]
+pub enum Stop {
+    Failed,
+    Short,
+}
+
+impl From<Failed> for Stop {
+    fn from(_failed: Failed) -> Stop {
+        Stop::Failed
+    }
+}
+
+// What is carried from frame to frame, with the memory that the decoder's state lies in.
+#[derive(Drop)]
 pub struct Run {
-    pub asked: usize,
-    pub edge: usize,
+    pub streams: Streams,
+    asked: usize,
+    edge: usize,
+    memory: [f64; lefasumu::MEMORY],
+    // Its first rows are those that the frame before looked ahead at, so many of them.
+    input: [f64; rows::HEARD],
+    ahead: usize,
     pub tally: Tally,
-    // How many characters the line that has begun has had, and how many of the next frame's rows are there.
-    pub count: u64,
-    pub ahead: usize,
     // The rows that the samples had, and those that the lines have needed.
     pub rows: u64,
     pub needed: u64,
-    // A file failed, or the samples ended: no more is played.
-    pub failed: bool,
-    pub short: bool,
-}
-
-pub fn start(asked: usize, edge: usize) -> Run {
-    Run {
-        asked: asked,
-        edge: edge,
-        tally: Tally {
-            frames: 0,
-            held: 0,
-            quiet: 0,
-            refused: 0,
-        },
-        count: 0,
-        ahead: 0,
-        rows: 0,
-        needed: 0,
-        failed: false,
-        short: false,
-    }
+    pub outcome: Result<(), Stop>,
 }
 
 // Whether an accepted line leaves what is in force: it is empty, or its byte 3 says no envelopes.
 fn holds(line: &[u8]) -> bool {
-    if line.len() < 8 {
-        return true;
-    }
-    (line[6] == b'0') & (line[7] == b'0')
+    line.len() < 8 || line[6..8] == [b'0', b'0']
 }
 
-// A frame's call on the first rows of lent memory.
-fn call(
-    memory: &mut [f64],
-    edge: usize,
-    line: &[u8],
-    input: &[f64],
-    slots: usize,
-    left: &mut [f64],
-    right: &mut [f64],
-) -> u32
-    requires { (slots ≤ 32) × (length input.now ≡ 4864) × (length left.old ≡ 4096) × (length right.old ≡ 4096) }
-{
-    let numbers = slots * 128;
-    let heard = numbers + 768;
-    lefasumu::lefasumu_frame(
-        memory,
-        line,
-        &input[..heard],
-        edge,
-        &mut left[..numbers],
-        &mut right[..numbers],
-    )
-}
-
-// Whether both outputs took a frame's rows.
-fn write_frame(
-    rt: &(impl Env + Eprint),
-    streams: &Streams,
-    slots: usize,
-    left: &[f64],
-    right: &[f64],
-) -> bool
-    requires { (slots ≤ 32) × (length left.now ≡ 4096) × (length right.now ≡ 4096) }
-{
-    let numbers = slots * 128;
-    if rows::write(rt, LEFT, &streams.left, &left[..numbers]) {
-        return rows::write(rt, RIGHT, &streams.right, &right[..numbers]);
-    }
-    false
-}
-
-// A frame whose rows are there. A call that is not answered with 0 leaves its outputs as they were, so that silence is written and the outputs keep time.
-fn play_frame(
-    rt: &(impl Env + Print + Eprint),
-    streams: &Streams,
-    before: Run,
-    memory: &mut [f64],
-    line: &[u8],
-    input: &mut [f64],
-    slots: usize,
-) -> Run
-    requires { (slots ≤ 32) × (length input.old ≡ 4864) }
-{
-    let mut left = [0.0; 4096];
-    let mut right = [0.0; 4096];
-    let answer = call(
-        memory,
-        before.edge,
-        line,
-        input,
-        slots,
-        &mut left,
-        &mut right,
-    );
-    let tally = before.tally;
-    report::frame(rt, tally.frames, answer);
-    let mut after = before;
-    after.tally = report::tallied(tally, answer, holds(line));
-    after.failed = !write_frame(rt, streams, slots, &left, &right);
-    rows::carry(input, slots);
-    after
-}
-
-// A line more: a frame more is counted, and the rows that it needs.
-fn begun(before: Run, slots: usize) -> Run {
-    let mut tally = before.tally;
-    tally.frames = report::counted(tally.frames);
-    let mut after = before;
-    after.tally = tally;
-    after.needed = std::num::wrapping_add_u64(before.needed, slots as u64);
-    after.count = 0;
-    after
-}
-
-// One cue line, without its newline. `input` begins with the rows that the frame before looked ahead at.
-fn play_line(
-    rt: &(impl Env + Print + Eprint),
-    streams: &Streams,
-    before: Run,
-    memory: &mut [f64],
-    line: &[u8],
-    input: &mut [f64],
-) -> Run
-    requires { length input.old ≡ 4864 }
-{
-    let slots = borders::slots(before.asked);
-    let ahead = limits::least(before.ahead, 6);
-    let mut run = begun(before, slots);
-    if run.failed | run.short {
-        return run;
-    }
-    let got = rows::fetch(rt, &streams.samples, slots, ahead, input);
-    run.rows = std::num::wrapping_add_u64(run.rows, got.rows as u64);
-    if got.failed {
-        run.failed = true;
-        return run;
-    }
-    let there = ahead + got.rows;
-    if there < slots {
-        run.short = true;
-        return run;
-    }
-    run.ahead = there - slots;
-    play_frame(rt, streams, run, memory, line, input, slots)
-}
-
-// The line that has begun is complete.
-pub fn end_line(
-    rt: &(impl Env + Print + Eprint),
-    streams: &Streams,
-    before: Run,
-    memory: &mut [f64],
-    line: &[u8],
-    input: &mut [f64],
-) -> Run
-    requires { length input.old ≡ 4864 }
-{
-    play_line(
-        rt,
-        streams,
-        before,
-        memory,
-        text_lines::held(line, before.count),
-        input,
-    )
-}
-
-// A piece of the file of lines: the lines that end in it, and the beginning of the next.
-pub fn play_piece(
-    rt: &(impl Env + Print + Eprint),
-    streams: &Streams,
-    before: Run,
-    memory: &mut [f64],
-    line: &mut [u8],
-    input: &mut [f64],
-    piece: &[u8],
-) -> Run
-    requires { length input.old ≡ 4864 }
-{
-    let mut run = before;
-    let mut from = 0;
-    while from < piece.len() {
-        let step = text_lines::step(line, run.count, piece, from);
-        from = step.next;
-        run.count = step.count;
-        if step.ended {
-            run = end_line(rt, streams, run, memory, line, input);
+impl Run {
+    pub fn new(streams: Streams, asked: usize, edge: usize) -> Run {
+        let mut memory = [0.0; lefasumu::MEMORY];
+        let outcome = match lefasumu::lefasumu_start(&mut memory, asked) {
+            0 => Ok(()),
+            _ => Err(Stop::Failed),
+        };
+        Run {
+            streams,
+            asked,
+            edge,
+            memory,
+            input: [0.0; rows::HEARD],
+            ahead: 0,
+            tally: Tally::default(),
+            rows: 0,
+            needed: 0,
+            outcome,
         }
     }
-    run
+
+    // A frame whose rows are there. A call that is not answered with 0 leaves its outputs as they were, so that silence is written and the outputs keep time.
+    fn play_frame(
+        &mut self,
+        rt: &(impl Env + Print + Eprint),
+        line: &[u8],
+        slots: usize,
+    ) -> Result<(), Failed>
+        requires { slots ≤ 32 }
+    {
+        let mut left = [0.0; SIDE];
+        let mut right = [0.0; SIDE];
+        let numbers = slots * 128;
+        let number = lefasumu::lefasumu_frame(
+            &mut self.memory,
+            line,
+            &self.input[..numbers + 768],
+            self.edge,
+            &mut left[..numbers],
+            &mut right[..numbers],
+        );
+        // No call has another number than an answer's.
+        let answer = Answer::try_from(number).unwrap_or(Answer::Sample);
+        report::frame(rt, self.tally.frames, answer);
+        self.tally.count(answer, holds(line));
+        rows::carry(&mut self.input, slots);
+        rows::write(rt, LEFT, &self.streams.left, &left[..numbers])?;
+        rows::write(rt, RIGHT, &self.streams.right, &right[..numbers])
+    }
+
+    // One cue line, without its newline.
+    fn play_line(
+        &mut self,
+        rt: &(impl Env + Print + Eprint),
+        line: &[u8],
+        slots: usize,
+    ) -> Result<(), Stop>
+        requires { slots ≤ 32 }
+    {
+        let ahead = self.ahead.min(6);
+        let rows = rows::fetch(rt, &self.streams.samples, slots, ahead, &mut self.input)?;
+        self.rows = self.rows.wrapping_add(rows as u64);
+        let there = ahead + rows;
+        if there < slots {
+            return Err(Stop::Short);
+        }
+        self.ahead = there - slots;
+        self.play_frame(rt, line, slots)?;
+        Ok(())
+    }
+
+    // The line that has begun is complete: a frame more is counted, and the rows that it needs; and it is played, unless no more is.
+    pub fn end_line(&mut self, rt: &(impl Env + Print + Eprint), line: &[u8]) {
+        let slots = borders::slots(self.asked);
+        self.tally.frames = self.tally.frames.wrapping_add(1);
+        self.needed = self.needed.wrapping_add(slots as u64);
+        if self.outcome.is_ok() {
+            self.outcome = self.play_line(rt, line, slots);
+        }
+    }
 }

@@ -1,5 +1,5 @@
 // Numbers and names among the program's arguments.
-ghost use Rattle.std.specs.Prelude.{◌≤◌, length};
+ghost use Rattle.std.specs.Prelude.{◌≤◌, length, IfSome};
 
 use std::env::{Env, FillError};
 
@@ -9,76 +9,52 @@ pub const LONGEST: usize = 4096;
 // Slots act alike from 32 on and the spectrum's edge from 64 on, so a number above this one is read as this one.
 const MOST: usize = 1000000;
 
-#[derive(Clone, Copy)]
-pub enum Number {
-    Given(usize),
-    Missing,
-}
-
-// What a decimal digit counts, or 10.
-fn digit(byte: u8) -> usize
-    ensures { result ≤ 10 }
-{
-    match byte {
-        b'0'..=b'9' => (byte - b'0') as usize,
-        _ => 10,
-    }
+// The number that a digit more makes of one.
+fn number_more(number: usize, byte: u8) -> Option<usize> {
+    let digit = char::from(byte).to_digit(10)?;
+    Some(
+        number
+            .saturating_mul(10)
+            .saturating_add(digit as usize)
+            .min(MOST),
+    )
 }
 
 // The number of a text that is one digit or more and nothing else.
-fn number_of(text: &[u8]) -> Number {
-    if text.len() == 0 {
-        return Number::Missing;
+fn number_of(text: &[u8]) -> Option<usize> {
+    if text.is_empty() {
+        return None;
     }
-    let mut value = 0;
-    let mut i = 0;
-    while i < text.len() {
-        let count = digit(text[i]);
-        if 9 < count {
-            return Number::Missing;
-        }
-        value = limits::least(value * 10 + count, MOST);
-        i += 1;
-    }
-    Number::Given(value)
+    text.iter()
+        .try_fold(0, |number, byte| number_more(number, *byte))
 }
 
-// Puts an argument at the front of lent memory and answers its length: none where it is missing, or too long for the memory.
-pub fn text_at(rt: &impl Env, place: usize, text: &mut [u8]) -> usize
-    ensures { result ≤ length text.new }
+// An argument, at the front of lent memory: none where it is missing, or too long for the memory.
+pub fn text_at<'a>(rt: &impl Env, place: usize, memory: &'a mut [u8]) -> Option<&'a [u8]>
+    ensures { IfSome result (λ text. length text.now ≤ length memory.old) }
 {
-    match rt.arg(place, text) {
-        Ok(used) => used,
-        Err(_) => 0,
-    }
+    let used = rt.arg(place, memory).ok()?;
+    Some(&memory[..used])
 }
 
-pub fn number_at(rt: &impl Env, place: usize) -> Number {
-    let mut text = [0u8; LONGEST];
-    let used = text_at(rt, place, &mut text);
-    number_of(&text[..used])
+pub fn number_at(rt: &impl Env, place: usize) -> Option<usize> {
+    let mut memory = [0u8; LONGEST];
+    number_of(text_at(rt, place, &mut memory)?)
 }
 
 // Whether a name is there, has a character, and is no longer than a path may be.
 pub fn named(rt: &impl Env, place: usize) -> bool {
-    let mut name = [0u8; LONGEST];
-    0 < text_at(rt, place, &mut name)
+    let mut memory = [0u8; LONGEST];
+    text_at(rt, place, &mut memory).is_some_and(|name| !name.is_empty())
 }
 
 fn is_given(rt: &impl Env, place: usize) -> bool {
-    let mut text = [0u8; 1];
-    match rt.arg(place, &mut text) {
-        Ok(_) | Err(FillError::TooLong) => true,
-        Err(FillError::NotPresent) => false,
-    }
+    !matches!(rt.arg(place, &mut [0u8; 1]), Err(FillError::NotPresent))
 }
 
 // How many arguments there are, the program's own name among them.
 pub fn count(rt: &impl Env) -> usize {
-    for place in 0..usize::MAX {
-        if !is_given(rt, place) {
-            return place;
-        }
-    }
-    usize::MAX
+    (0..usize::MAX)
+        .find(|place| !is_given(rt, *place))
+        .unwrap_or(usize::MAX)
 }
