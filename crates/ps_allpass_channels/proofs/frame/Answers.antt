@@ -1,6 +1,5 @@
 -- `ps_allpass_channels::frame` meets its contract: the constants are laid, all slots run, and the free lanes are silenced. Assumes nothing.
 use mathlib.Core.Path.{◌∙◌}
-use borrow.Author.Rules.{rules}
 use Rattle.ps_allpass_channels.proofs.Ending.{framed}
 use Rattle.ps_allpass_channels.proofs.frame.Goals as goal
 
