@@ -25,7 +25,7 @@ loop-n-init c =
       right_long = refl;
       begun = λ h. absurd (omega (arith, c.min-count.ensures));
       chains = λ k u. refl;
-      sofar = λ table laid. none a.layout a.timing table a.samples.now a.gains.now a.rows.now a.input.now a.delays.now a.left.now a.right.now;
+      sofar = λ table laid. none a.layout a.timing table a.lent.samples.now a.lent.gains.now a.lent.rows.now a.lent.input.now a.delays.now a.left.now a.right.now;
     }
 
 pub begin-requires : goal.begin-requires
@@ -81,9 +81,9 @@ loop-n-preserved c =
       begun = λ h. record { from = λ k u. s.from k u ∙ way.from k u; step = λ k u. s.step k u ∙ way.step k u };
       chains = λ k u. s.chain k u ∙ c.begin.ensures.chains k u ∙ l.invariant.chains k u;
       sofar = λ table laid.
-          more a.layout a.timing table a.samples.now a.gains.now a.rows.now a.input.now a.delays.now l.n _ _ _
+          more a.layout a.timing table a.lent.samples.now a.lent.gains.now a.lent.rows.now a.lent.input.now a.delays.now l.n _ _ _
           (λ k u. c.begin.ensures.chains k u ∙ l.invariant.chains k u ∙ laid k u)
-          (λ k u. matrix_is a.layout a.timing table a.samples.now a.gains.now a.rows.now a.input.now a.delays.now l.n count region _ few long l.invariant.counted c.region_in-next.ensures c.share_in.ensures _ k u way)
+          (λ k u. matrix_is a.layout a.timing table a.lent.samples.now a.lent.gains.now a.lent.rows.now a.lent.input.now a.delays.now l.n count region _ few long l.invariant.counted c.region_in-next.ensures c.share_in.ensures _ k u way)
           a.left.now a.right.now _ _ _ _ _ _ _ (l.invariant.sofar table laid) s;
     }
 
@@ -102,5 +102,5 @@ returns c =
     let a = c.args in
     let whole : l.n ≡ a.timing.slots = omega (arith, l.invariant.within, l.invariant.ends, c.loop-n-test.false) in
     λ table laid.
-    all a.layout a.timing table a.samples.now a.gains.now a.rows.now a.input.now a.delays.now l.n a.left.now a.right.now _ _ _ whole
+    all a.layout a.timing table a.lent.samples.now a.lent.gains.now a.lent.rows.now a.lent.input.now a.delays.now l.n a.left.now a.right.now _ _ _ whole
     (l.invariant.sofar table laid)

@@ -29,7 +29,7 @@ pub record Inv (l : Layout) (timing : Timing) (samples gains rows input desks₀
   pub sofar : (table : List ℤ) → Lies l chain_on desks₀ (chain_from table l) → Reached l timing table samples gains rows input delays₀ n left₀ right₀ delays left right
 
 abbrev pub invariant-loop-n : goal.invariant-loop-n
-invariant-loop-n l = Inv l.layout l.timing l.samples l.gains l.rows l.input l.initial.desks l.initial.delays l.initial.left l.initial.right l.map l.count l.n-end l.desks l.delays l.left l.right l.region l.n
+invariant-loop-n l = Inv l.layout l.timing l.lent.samples.now l.lent.gains.now l.lent.rows.now l.lent.input.now l.initial.desks l.initial.delays l.initial.left l.initial.right l.map l.count l.n-end l.desks l.delays l.left l.right l.region l.n
 
 abbrev pub decreases-loop-n : goal.decreases-loop-n
 decreases-loop-n l = l.n-end - l.n

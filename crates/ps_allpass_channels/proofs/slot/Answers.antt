@@ -14,7 +14,7 @@ returns c =
     let l = a.moment.layout in
     let m = a.moment in
     let e = c.enter.ensures in
-    passed l a.samples.now a.gains.now a.input.now m.n m.turn m.t m.held
+    passed l a.lent.samples.now a.lent.gains.now a.lent.input.now m.n m.turn m.t m.held
     a.desks.now c.enter.new.desks _ a.delays.now _ a.left.now a.right.now _ _
     e.samples e.ducks e.chains e.from e.step
     (c.groups.ensures.roomy c.requires.delays_len (omega (arith, (bounds l).groups)))
