@@ -1,9 +1,6 @@
 -- `ps_hybrid_analysis::filter::Bank::taps` meets its contract: after m turns the first m taps stand. Assumes nothing.
-use mathlib.Core.Path.{ap}
 use native.Mathlib.Omega.{arith}
-use lib.ListN.{length}
 use Rattle.ps_hybrid_analysis.proofs.Runs.{filled_none, filled_more, filled_all}
-use Rattle.ps_hybrid_analysis.proofs.Taps.{prototype_length, tap_read}
 use Rattle.ps_hybrid_analysis.proofs.filter.Bank.taps.Goals as goal
 
 pub loop-m-init : goal.loop-m-init
