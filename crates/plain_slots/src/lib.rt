@@ -73,8 +73,7 @@ fn band(layout: Layout, k: usize) -> usize
     requires { k < 91 }
     ensures { result ≡ band_of layout k }
 {
-    let map = ps_map::parameter_map(layout);
-    map[k] as usize
+    usize::from(ps_map::parameter_map(layout)[k])
 }
 
 // One side: the two coefficients that stand at `first` and `second`, times the sample and the de-correlated sample.

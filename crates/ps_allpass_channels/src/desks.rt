@@ -15,36 +15,31 @@ ghost use Rattle.ps_allpass_channels.specs.DeskNumbers.{sample_number, Put};
 use layout::Layout;
 use standard::Chain;
 
+// 13 desks of 136 numbers.
+pub const DESKS: usize = 13 * 136;
+
 // The constants of channel k's chain. Those of the channels before it stay.
-fn lay_chain(chain: Chain, k: usize, desks: &mut [f64])
-    requires { (k < 52) × (length desks.old ≡ 1768) }
+fn lay_chain(chain: Chain, k: usize, desks: &mut [f64; DESKS])
+    requires { k < 52 }
     ensures own { desk_of chain_on desks.new k ≡ chain }
     ensures before { (i : ℕ) → i < k → desk_of chain_on desks.new i ≡ desk_of chain_on desks.old i }
 {
     let at = 136 * (k / 4) + k % 4;
-    let fractional = chain.fractional;
-    let first = chain.first;
-    let second = chain.second;
-    let third = chain.third;
-    let one = first.rotation;
-    let two = second.rotation;
-    let three = third.rotation;
-    desks[at] = fractional.re;
-    desks[at + 4] = fractional.im;
-    desks[at + 8] = one.re;
-    desks[at + 12] = one.im;
-    desks[at + 16] = first.feedback;
-    desks[at + 20] = two.re;
-    desks[at + 24] = two.im;
-    desks[at + 28] = second.feedback;
-    desks[at + 32] = three.re;
-    desks[at + 36] = three.im;
-    desks[at + 40] = third.feedback;
+    desks[at] = chain.fractional.re;
+    desks[at + 4] = chain.fractional.im;
+    desks[at + 8] = chain.first.rotation.re;
+    desks[at + 12] = chain.first.rotation.im;
+    desks[at + 16] = chain.first.feedback;
+    desks[at + 20] = chain.second.rotation.re;
+    desks[at + 24] = chain.second.rotation.im;
+    desks[at + 28] = chain.second.feedback;
+    desks[at + 32] = chain.third.rotation.re;
+    desks[at + 36] = chain.third.rotation.im;
+    desks[at + 40] = chain.third.feedback;
 }
 
 // The constants of every chain, from a lent table of rotations: once a frame.
-pub fn lay(layout: Layout, table: &[i64], desks: &mut [f64])
-    requires { length desks.old ≡ 1768 }
+pub fn lay(layout: Layout, table: &[i64], desks: &mut [f64; DESKS])
     ensures { Lies layout chain_on desks.new (chain_from table.now layout) }
 {
     let channels = 4 * layout.groups();
@@ -54,8 +49,8 @@ pub fn lay(layout: Layout, table: &[i64], desks: &mut [f64])
 }
 
 // Channel k's eight coefficients from one border, and what they are to gain until another.
-fn lay_way(rows: &[f64], from: usize, to: usize, k: usize, desks: &mut [f64])
-    requires { (from + 8 ≤ length rows.now) × (to + 8 ≤ length rows.now) × (k < 52) × (length desks.old ≡ 1768) }
+fn lay_way(rows: &[f64], from: usize, to: usize, k: usize, desks: &mut [f64; DESKS])
+    requires { (from + 8 ≤ length rows.now) × (to + 8 ≤ length rows.now) × (k < 52) }
     ensures { Put k (k + 1) 11 (λ j. j < 27) (λ _ j. cond (ltb j 19) (get_or rows.now (from + (j - 11)) nan)
         (sub binary64 (get_or rows.now (to + (j - 19)) nan) (get_or rows.now (from + (j - 19)) nan)))
         desks.old desks.new }
@@ -69,22 +64,29 @@ fn lay_way(rows: &[f64], from: usize, to: usize, k: usize, desks: &mut [f64])
 }
 
 // The coefficients of every channel from border e to another.
-pub fn ways(layout: Layout, map: &[u8; 91], rows: &[f64], e: usize, next: usize, desks: &mut [f64])
-    requires map_value { (map.now ≡ parameter_map layout) × ((limits.course * bands_of layout ≤ length rows.now) × (length desks.old ≡ 1768)) }
+pub fn ways(
+    layout: Layout,
+    map: &[u8; 91],
+    rows: &[f64],
+    e: usize,
+    next: usize,
+    desks: &mut [f64; DESKS],
+)
+    requires map_value { (map.now ≡ parameter_map layout) × (limits.course * bands_of layout ≤ length rows.now) }
     requires e_lt_borders { (e < limits.borders) × (next < limits.borders) }
     ensures way { Wayed layout rows.now e next desks.new }
     ensures chains { Lies layout chain_on desks.new (desk_of chain_on desks.old) }
 {
     let channels = 4 * layout.groups();
     for k in 0..channels {
-        let at = limits::COURSE * (map[k] as usize);
+        let at = limits::COURSE * usize::from(map[k]);
         lay_way(rows, at + 8 * e, at + 8 * next, k, desks);
     }
 }
 
 // Slot n of four of the split bands' channels, from their runs, into the lanes of desk g.
-fn split_four(samples: &[f64], n: usize, g: usize, desks: &mut [f64])
-    requires { (n < 32) × (g < 8) × (256 * g + 256 ≤ length samples.now) × (length desks.old ≡ 1768) }
+fn split_four(samples: &[f64], n: usize, g: usize, desks: &mut [f64; DESKS])
+    requires { (n < 32) × (g < 8) × (256 * g + 256 ≤ length samples.now) }
     ensures { Put (4 * g) (4 * g + 4) 27 (λ j. j < 29) (λ k. sample_number (sample_at samples.now n k)) desks.old desks.new }
 {
     let from = 256 * g + n;
@@ -108,8 +110,8 @@ fn split_four(samples: &[f64], n: usize, g: usize, desks: &mut [f64])
 }
 
 // Of those that fill whole desks.
-fn split_desks(whole: usize, samples: &[f64], n: usize, desks: &mut [f64])
-    requires { (whole ≤ 8) × (n < 32) × (256 * whole ≤ length samples.now) × (length desks.old ≡ 1768) }
+fn split_desks(whole: usize, samples: &[f64], n: usize, desks: &mut [f64; DESKS])
+    requires { (whole ≤ 8) × (n < 32) × (256 * whole ≤ length samples.now) }
     ensures { Put 0 (4 * whole) 27 (λ j. j < 29) (λ k. sample_number (sample_at samples.now n k)) desks.old desks.new }
 {
     for g in 0..whole {
@@ -118,8 +120,8 @@ fn split_desks(whole: usize, samples: &[f64], n: usize, desks: &mut [f64])
 }
 
 // Of those that are left.
-fn split_rest(first: usize, unsplit: usize, samples: &[f64], n: usize, desks: &mut [f64])
-    requires { (first ≤ unsplit) × (unsplit ≤ 32) × (n < 32) × (64 * unsplit ≤ length samples.now) × (length desks.old ≡ 1768) }
+fn split_rest(first: usize, unsplit: usize, samples: &[f64], n: usize, desks: &mut [f64; DESKS])
+    requires { (first ≤ unsplit) × (unsplit ≤ 32) × (n < 32) × (64 * unsplit ≤ length samples.now) }
     ensures { Put first unsplit 27 (λ j. j < 29) (λ k. sample_number (sample_at samples.now n k)) desks.old desks.new }
 {
     for k in first..unsplit {
@@ -130,8 +132,8 @@ fn split_rest(first: usize, unsplit: usize, samples: &[f64], n: usize, desks: &m
 }
 
 // Of all the split bands' channels.
-fn enter_split(unsplit: usize, samples: &[f64], n: usize, desks: &mut [f64])
-    requires { (unsplit ≤ 32) × (n < 32) × (64 * unsplit ≤ length samples.now) × (length desks.old ≡ 1768) }
+fn enter_split(unsplit: usize, samples: &[f64], n: usize, desks: &mut [f64; DESKS])
+    requires { (unsplit ≤ 32) × (n < 32) × (64 * unsplit ≤ length samples.now) }
     ensures { Put 0 unsplit 27 (λ j. j < 29) (λ k. sample_number (sample_at samples.now n k)) desks.old desks.new }
 {
     let whole = unsplit / 4;
@@ -140,8 +142,15 @@ fn enter_split(unsplit: usize, samples: &[f64], n: usize, desks: &mut [f64])
 }
 
 // And of QMF bands that are not split, up to the first one whose channel begins a desk.
-fn enter_low(split: usize, unsplit: usize, end: usize, input: &[f64], n: usize, desks: &mut [f64])
-    requires { (split ≤ unsplit) × (unsplit ≤ end) × (end ≤ 52) × (n < 32) × (128 * n + 128 ≤ length input.now) × (length desks.old ≡ 1768) }
+fn enter_low(
+    split: usize,
+    unsplit: usize,
+    end: usize,
+    input: &[f64],
+    n: usize,
+    desks: &mut [f64; DESKS],
+)
+    requires { (split ≤ unsplit) × (unsplit ≤ end) × (end ≤ 52) × (n < 32) × (128 * n + 128 ≤ length input.now) }
     ensures { Put unsplit end 27 (λ j. j < 29) (λ k. sample_number (qmf_at input.now n (k + split - unsplit)))
         desks.old desks.new }
 {
@@ -154,8 +163,8 @@ fn enter_low(split: usize, unsplit: usize, end: usize, input: &[f64], n: usize, 
 }
 
 // Four QMF bands side by side, from a place of the input on, into the lanes of desk g.
-fn enter_four(input: &[f64], from: usize, g: usize, desks: &mut [f64])
-    requires { (from + 8 ≤ length input.now) × (g < 13) × (length desks.old ≡ 1768) }
+fn enter_four(input: &[f64], from: usize, g: usize, desks: &mut [f64; DESKS])
+    requires { (from + 8 ≤ length input.now) × (g < 13) }
     ensures { Put (4 * g) (4 * g + 4) 27 (λ j. j < 29) (λ k. sample_number (cell 1 input.now (from + 2 * (k - 4 * g))))
         desks.old desks.new }
 {
@@ -179,8 +188,8 @@ fn enter_four(input: &[f64], from: usize, g: usize, desks: &mut [f64])
 }
 
 // QMF bands 5 to 24 are the lanes of five desks.
-fn enter_high(first: usize, input: &[f64], n: usize, desks: &mut [f64])
-    requires { (first ≤ 8) × (n < 32) × (128 * n + 128 ≤ length input.now) × (length desks.old ≡ 1768) }
+fn enter_high(first: usize, input: &[f64], n: usize, desks: &mut [f64; DESKS])
+    requires { (first ≤ 8) × (n < 32) × (128 * n + 128 ≤ length input.now) }
     ensures { Put (4 * first) (4 * first + 20) 27 (λ j. j < 29) (λ k. sample_number (qmf_at input.now n (k + 5 - 4 * first)))
         desks.old desks.new }
 {
@@ -190,8 +199,8 @@ fn enter_high(first: usize, input: &[f64], n: usize, desks: &mut [f64])
 }
 
 // And of all that are not split: the last five desks have bands 5 to 24.
-fn enter_row(layout: Layout, input: &[f64], n: usize, desks: &mut [f64])
-    requires { (n < 32) × (128 * n + 128 ≤ length input.now) × (length desks.old ≡ 1768) }
+fn enter_row(layout: Layout, input: &[f64], n: usize, desks: &mut [f64; DESKS])
+    requires { (n < 32) × (128 * n + 128 ≤ length input.now) }
     ensures { Put (unsplit_from_of layout) (lanes_of layout) 27 (λ j. j < 29) (λ k. sample_number (qmf_at input.now n (qmf_band_of layout k)))
         desks.old desks.new }
 {
@@ -212,12 +221,12 @@ fn duck(map: &[u8; 91], gains: &[f64], k: usize, n: usize) -> f64
     requires { (k < 91) × (n < 32) × (32 * get_or map.now k 0 + 32 ≤ length gains.now) }
     ensures { result ≡ get_or gains.now (32 * get_or map.now k 0 + n) nan }
 {
-    gains[32 * (map[k] as usize) + n]
+    gains[32 * usize::from(map[k]) + n]
 }
 
 // Those of four channels into the lanes of desk g.
-fn duck_four(map: &[u8; 91], gains: &[f64], n: usize, g: usize, desks: &mut [f64])
-    requires { ((k : ℕ) → 32 * get_or map.now k 0 + 32 ≤ length gains.now) × (n < 32) × (g < 13) × (length desks.old ≡ 1768) }
+fn duck_four(map: &[u8; 91], gains: &[f64], n: usize, g: usize, desks: &mut [f64; DESKS])
+    requires { ((k : ℕ) → 32 * get_or map.now k 0 + 32 ≤ length gains.now) × (n < 32) × (g < 13) }
     ensures { Put (4 * g) (4 * g + 4) 29 (λ j. j < 30) (λ k _. get_or gains.now (32 * get_or map.now k 0 + n) nan)
         desks.old desks.new }
 {
@@ -234,8 +243,8 @@ fn duck_four(map: &[u8; 91], gains: &[f64], n: usize, g: usize, desks: &mut [f64
 }
 
 // The ducking factors of slot n.
-fn enter_ducks(layout: Layout, map: &[u8; 91], gains: &[f64], n: usize, desks: &mut [f64])
-    requires { (map.now ≡ parameter_map layout) × (n < 32) × (32 * bands_of layout ≤ length gains.now) × (length desks.old ≡ 1768) }
+fn enter_ducks(layout: Layout, map: &[u8; 91], gains: &[f64], n: usize, desks: &mut [f64; DESKS])
+    requires { (map.now ≡ parameter_map layout) × (n < 32) × (32 * bands_of layout ≤ length gains.now) }
     ensures { Put 0 (lanes_of layout) 29 (λ j. j < 30) (λ k _. get_or gains.now (32 * band_of layout k + n) nan)
         desks.old desks.new }
 {
@@ -252,10 +261,10 @@ pub fn enter(
     gains: &[f64],
     input: &[f64],
     n: usize,
-    desks: &mut [f64],
+    desks: &mut [f64; DESKS],
 )
     requires map_value { (map.now ≡ parameter_map layout) × ((n < 32) × (128 * n + 128 ≤ length input.now)) }
-    requires layout_in_bounds { (64 * unsplit_from_of layout ≤ length samples.now) × (32 * bands_of layout ≤ length gains.now) × (length desks.old ≡ 1768) }
+    requires layout_in_bounds { (64 * unsplit_from_of layout ≤ length samples.now) × (32 * bands_of layout ≤ length gains.now) }
     ensures samples { Lies layout sample_on desks.new (sample_in layout samples.now input.now n) }
     ensures ducks { Lies layout duck_on desks.new (λ k. get_or gains.now (32 * band_of layout k + n) nan) }
     ensures chains { Lies layout chain_on desks.new (desk_of chain_on desks.old) }

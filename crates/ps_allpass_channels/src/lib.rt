@@ -18,8 +18,18 @@ ghost use Rattle.ps_allpass_channels.specs.Channels.{channel_then, side_rows, le
 ghost use Rattle.ps_allpass_channels.specs.Desks.{desk_of, Lies, Wayed};
 ghost use Rattle.ps_allpass_channels.specs.Slots.{Passed, Roomy, Reached};
 
+use desks::DESKS;
 use layout::Layout;
 use ps_stereo_slots::Timing;
+
+// What a frame's channels read: the samples of the split bands, the ducking factors, the coefficients at the borders, and the input.
+#[derive(Clone, Copy)]
+struct Lent<'a> {
+    samples: &'a [f64],
+    gains: &'a [f64],
+    rows: &'a [f64],
+    input: &'a [f64],
+}
 
 // What is said of a slot: that it is slot n of the frame, that `turn` slots came before it, and how far it lies on its way, or that it is held.
 #[derive(Clone, Copy)]
@@ -35,23 +45,21 @@ struct Moment {
 fn slot(
     moment: Moment,
     map: &[u8; 91],
-    samples: &[f64],
-    gains: &[f64],
-    input: &[f64],
-    desks: &mut [f64],
+    lent: Lent,
+    desks: &mut [f64; DESKS],
     delays: &mut [f64],
     left: &mut [f64],
     right: &mut [f64],
 )
-    requires map_value { (map.now ≡ parameter_map moment.layout) × (moment.n < 32) × (128 * moment.n + 128 ≤ length input.now) }
-    requires layout_in_bounds { (64 * unsplit_from_of moment.layout ≤ length samples.now) × (32 * bands_of moment.layout ≤ length gains.now) }
-    requires desks_len { (length desks.old ≡ 1768) × (112 * groups_of moment.layout ≤ length delays.old) }
+    requires map_value { (map.now ≡ parameter_map moment.layout) × (moment.n < 32) × (128 * moment.n + 128 ≤ length lent.input.now) }
+    requires layout_in_bounds { (64 * unsplit_from_of moment.layout ≤ length lent.samples.now) × (32 * bands_of moment.layout ≤ length lent.gains.now) }
+    requires delays_len { 112 * groups_of moment.layout ≤ length delays.old }
     requires n_in_bounds { (128 * moment.n + 128 ≤ length left.old) × (128 * moment.n + 128 ≤ length right.old) }
-    ensures { Passed moment.layout samples.now gains.now input.now moment.n moment.turn moment.t moment.held desks.old delays.old left.old right.old desks.new delays.new left.new right.new }
+    ensures { Passed moment.layout lent.entry.samples.now lent.entry.gains.now lent.entry.input.now moment.n moment.turn moment.t moment.held desks.old delays.old left.old right.old desks.new delays.new left.new right.new }
 {
     let layout = moment.layout;
     let n = moment.n;
-    desks::enter(layout, map, samples, gains, input, n, desks);
+    desks::enter(layout, map, lent.samples, lent.gains, lent.input, n, desks);
     ps_allpass_groups::groups(layout, delays, desks, moment.turn, moment.t, moment.held);
     rows::leave(layout, desks, n, left, right);
 }
@@ -64,9 +72,9 @@ fn begin(
     count: usize,
     region: usize,
     old: usize,
-    desks: &mut [f64],
+    desks: &mut [f64; DESKS],
 )
-    requires map_value { (map.now ≡ parameter_map layout) × (limits.course * bands_of layout ≤ length rows.now) × (length desks.old ≡ 1768) }
+    requires map_value { (map.now ≡ parameter_map layout) × (limits.course * bands_of layout ≤ length rows.now) }
     requires region_le_count { (region ≤ count) × (count ≤ limits.envelopes) × (old ≤ count → Wayed layout rows.now old (min (old + 1) count) desks.old) }
     ensures way { Wayed layout rows.now region (min (region + 1) count) desks.new }
     ensures chains { Lies layout chain_on desks.new (desk_of chain_on desks.old) }
@@ -74,52 +82,39 @@ fn begin(
     if region == old {
         return;
     }
-    desks::ways(
-        layout,
-        map,
-        rows,
-        region,
-        limits::least(region + 1, count),
-        desks,
-    );
+    desks::ways(layout, map, rows, region, (region + 1).min(count), desks);
 }
 
 // The slots of a frame, whose turn is below 420. The constants are on the desks.
 fn run(
     layout: Layout,
     timing: Timing,
-    samples: &[f64],
-    gains: &[f64],
-    rows: &[f64],
-    input: &[f64],
-    desks: &mut [f64],
+    lent: Lent,
+    desks: &mut [f64; DESKS],
     delays: &mut [f64],
     left: &mut [f64],
     right: &mut [f64],
 )
-    requires roomy { Roomy layout timing samples.now gains.now rows.now input.now delays.old left.old right.old }
-    requires desks_len { length desks.old ≡ 1768 }
+    requires { Roomy layout timing lent.samples.now lent.gains.now lent.rows.now lent.input.now delays.old left.old right.old }
     ensures { (table : List ℤ) → Lies layout chain_on desks.old (chain_from table layout)
-        → Reached layout timing table samples.now gains.now rows.now input.now delays.old timing.slots left.old right.old delays.new left.new right.new }
+        → Reached layout timing table lent.entry.samples.now lent.entry.gains.now lent.entry.rows.now lent.entry.input.now delays.old timing.slots left.old right.old delays.new left.new right.new }
 {
     let map = ps_map::parameter_map(layout);
-    let count = limits::least(timing.count, limits::ENVELOPES);
+    let count = timing.count.min(limits::ENVELOPES);
     // No region yet.
     let mut region = limits::BORDERS;
     for n in 0..timing.slots {
         let next = ps_stereo_slots::region_in(timing, n);
-        begin(layout, &map, rows, count, next, region, desks);
+        begin(layout, &map, lent.rows, count, next, region, desks);
         region = next;
         let moment = Moment {
-            layout: layout,
-            n: n,
+            layout,
+            n,
             turn: timing.turn + n,
             t: ps_stereo_slots::share_in(timing, next, n),
             held: next == count,
         };
-        slot(
-            moment, &map, samples, gains, input, desks, delays, left, right,
-        );
+        slot(moment, &map, lent, desks, delays, left, right);
     }
 }
 
@@ -138,25 +133,20 @@ fn frame(
     layout: Layout,
     timing: Timing,
     table: &[i64],
-    samples: &[f64],
-    gains: &[f64],
-    rows: &[f64],
-    input: &[f64],
+    lent: Lent,
     delays: &mut [f64],
     left: &mut [f64],
     right: &mut [f64],
 )
-    requires { Roomy layout timing samples.now gains.now rows.now input.now delays.old left.old right.old }
-    ensures left { left.new ≡ side_rows layout timing table.now samples.now gains.now rows.now input.now delays.old left_of timing.slots left.old }
-    ensures right { right.new ≡ side_rows layout timing table.now samples.now gains.now rows.now input.now delays.old right_of timing.slots right.old }
+    requires { Roomy layout timing lent.samples.now lent.gains.now lent.rows.now lent.input.now delays.old left.old right.old }
+    ensures left { left.new ≡ side_rows layout timing table.now lent.entry.samples.now lent.entry.gains.now lent.entry.rows.now lent.entry.input.now delays.old left_of timing.slots left.old }
+    ensures right { right.new ≡ side_rows layout timing table.now lent.entry.samples.now lent.entry.gains.now lent.entry.rows.now lent.entry.input.now delays.old right_of timing.slots right.old }
     ensures delays { delays.new ≡ delays_with layout (timing.turn + timing.slots)
-        (λ k. channel_then layout timing table.now samples.now gains.now rows.now input.now delays.old k timing.slots) delays.old }
+        (λ k. channel_then layout timing table.now lent.entry.samples.now lent.entry.gains.now lent.entry.rows.now lent.entry.input.now delays.old k timing.slots) delays.old }
 {
-    let mut desks = [0.0f64; 1768];
+    let mut desks = [0.0; DESKS];
     desks::lay(layout, table, &mut desks);
-    run(
-        layout, timing, samples, gains, rows, input, &mut desks, delays, left, right,
-    );
+    run(layout, timing, lent, &mut desks, delays, left, right);
     silence_free(layout, delays);
 }
 
@@ -177,7 +167,7 @@ pub fn allpass_channels(
     ensures right { right.new ≡ right_after layout timing table.now samples.now gains.now rows.now input.now delays.old left.old right.old }
     ensures delays { delays.new ≡ delays_after layout timing table.now samples.now gains.now rows.now input.now delays.old left.old right.old }
 {
-    let slots = limits::least(timing.slots, 32);
+    let slots = timing.slots.min(32);
     let bands = layout.bands();
     if left.len() != 128 * slots {
         return;
@@ -200,14 +190,16 @@ pub fn allpass_channels(
     if delays.len() < 112 * layout.groups() {
         return;
     }
-    let borders = timing.borders;
     let within = Timing {
-        borders: borders,
-        count: timing.count,
-        slots: slots,
+        slots,
         turn: timing.turn % 420,
+        ..timing
     };
-    frame(
-        layout, within, table, samples, gains, rows, input, delays, left, right,
-    );
+    let lent = Lent {
+        samples,
+        gains,
+        rows,
+        input,
+    };
+    frame(layout, within, table, lent, delays, left, right);
 }

@@ -7,12 +7,13 @@ ghost use Rattle.ps_allpass_groups.specs.Desk.{left_on, right_on};
 ghost use Rattle.standard.specs.Hybrid.{added_to, synthesised};
 ghost use Rattle.ps_allpass_channels.specs.Desks.{desk_of, standing, Rowed, Left};
 
+use super::desks::DESKS;
 use complex::Complex;
 use layout::Layout;
 
 // A complex number of a lane, its parts four places apart.
-fn lane(desks: &[f64], at: usize) -> Complex
-    requires { (at < 1764) × (length desks.now ≡ 1768) }
+fn lane(desks: &[f64; DESKS], at: usize) -> Complex
+    requires { at < 1764 }
     ensures { result ≡ cell 4 desks.now at }
 {
     Complex {
@@ -22,16 +23,16 @@ fn lane(desks: &[f64], at: usize) -> Complex
 }
 
 // A side of channel k: left stands from place 120 of a desk on, right from 128.
-fn side(desks: &[f64], place: usize, k: usize) -> Complex
-    requires { (k < 52) × ((place ≤ 128) × (length desks.now ≡ 1768)) }
+fn side(desks: &[f64; DESKS], place: usize, k: usize) -> Complex
+    requires { (k < 52) × (place ≤ 128) }
     ensures { result ≡ standing desks.now place k }
 {
     lane(desks, 136 * (k / 4) + k % 4 + place)
 }
 
 // The four channels of one desk, which stand from `at` on, added in rising order.
-fn add_four(start: Complex, desks: &[f64], at: usize) -> Complex
-    requires { (at ≤ 1760) × (length desks.now ≡ 1768) }
+fn add_four(start: Complex, desks: &[f64; DESKS], at: usize) -> Complex
+    requires { at ≤ 1760 }
     ensures { result ≡ sum (sum (sum (sum start (cell 4 desks.now at)) (cell 4 desks.now (at + 1)))
         (cell 4 desks.now (at + 2))) (cell 4 desks.now (at + 3)) }
 {
@@ -43,8 +44,14 @@ fn add_four(start: Complex, desks: &[f64], at: usize) -> Complex
 }
 
 // The channels of the desks from `first` to before `last`, added to a sum of those below, whichever of them it begins at.
-fn add_desks(start: Complex, desks: &[f64], place: usize, first: usize, last: usize) -> Complex
-    requires { (first ≤ last) × ((last ≤ 13) × ((place ≤ 128) × (length desks.now ≡ 1768))) }
+fn add_desks(
+    start: Complex,
+    desks: &[f64; DESKS],
+    place: usize,
+    first: usize,
+    last: usize,
+) -> Complex
+    requires { (first ≤ last) × ((last ≤ 13) × (place ≤ 128)) }
     ensures { (least : ℕ) → least ≤ 4 * first → start ≡ added_to (standing desks.now place) least (4 * first - least)
         → result ≡ added_to (standing desks.now place) least (4 * last - least) }
 {
@@ -56,8 +63,14 @@ fn add_desks(start: Complex, desks: &[f64], place: usize, first: usize, last: us
 }
 
 // The channels from `from` to before `end`, one after the other, added to a sum of those below, whichever of them it begins at.
-fn add_channels(start: Complex, desks: &[f64], place: usize, from: usize, end: usize) -> Complex
-    requires { (from ≤ end) × ((end ≤ 52) × ((place ≤ 128) × (length desks.now ≡ 1768))) }
+fn add_channels(
+    start: Complex,
+    desks: &[f64; DESKS],
+    place: usize,
+    from: usize,
+    end: usize,
+) -> Complex
+    requires { (from ≤ end) × ((end ≤ 52) × (place ≤ 128)) }
     ensures { (least : ℕ) → least ≤ from → start ≡ added_to (standing desks.now place) least (from - least)
         → result ≡ added_to (standing desks.now place) least (end - least) }
 {
@@ -69,8 +82,8 @@ fn add_channels(start: Complex, desks: &[f64], place: usize, from: usize, end: u
 }
 
 // The channels from `from` to before `end`, added in rising order from 0: by whole desks where the first of them begins a desk.
-fn added(desks: &[f64], place: usize, from: usize, end: usize) -> Complex
-    requires { (from ≤ end) × ((end ≤ 52) × ((place ≤ 128) × (length desks.now ≡ 1768))) }
+fn added(desks: &[f64; DESKS], place: usize, from: usize, end: usize) -> Complex
+    requires { (from ≤ end) × ((end ≤ 52) × (place ≤ 128)) }
     ensures { result ≡ added_to (standing desks.now place) from (end - from) }
 {
     let mut sum = Complex { re: 0.0, im: 0.0 };
@@ -82,8 +95,8 @@ fn added(desks: &[f64], place: usize, from: usize, end: usize) -> Complex
 }
 
 // One side's split bands.
-fn add_split(layout: Layout, desks: &[f64], place: usize, row: &mut [f64])
-    requires { (place ≤ 128) × ((length desks.now ≡ 1768) × (length row.old ≡ 128)) }
+fn add_split(layout: Layout, desks: &[f64; DESKS], place: usize, row: &mut [f64])
+    requires { (place ≤ 128) × (length row.old ≡ 128) }
     ensures { Rowed (synthesised layout (standing desks.now place)) 0 (split_of layout) row.old row.new }
 {
     for p in 0..layout.split() {
@@ -108,8 +121,8 @@ fn lay(row: &mut [f64], q: usize, y: Complex)
 }
 
 // The four channels of one desk, which stand from `at` on, as the four QMF bands from q on. All are read before the first is written.
-fn pass_four(desks: &[f64], at: usize, row: &mut [f64], q: usize)
-    requires at_bound { (at ≤ 1760) × (length desks.now ≡ 1768) }
+fn pass_four(desks: &[f64; DESKS], at: usize, row: &mut [f64], q: usize)
+    requires at_bound { at ≤ 1760 }
     requires q_bound { (q ≤ 60) × (length row.old ≡ 128) }
     ensures { Rowed (λ p. cell 4 desks.now (at + (p - q))) q (q + 4) row.old row.new }
 {
@@ -124,9 +137,9 @@ fn pass_four(desks: &[f64], at: usize, row: &mut [f64], q: usize)
 }
 
 // The unsplit bands below 5: each is the channel `unsplit - split` above it.
-fn pass_low(desks: &[f64], place: usize, split: usize, unsplit: usize, row: &mut [f64])
+fn pass_low(desks: &[f64; DESKS], place: usize, split: usize, unsplit: usize, row: &mut [f64])
     requires split_bound { (split ≤ 5) × ((split ≤ unsplit) × (unsplit ≤ split + 27)) }
-    requires place_bound { (place ≤ 128) × ((length desks.now ≡ 1768) × (length row.old ≡ 128)) }
+    requires place_bound { (place ≤ 128) × (length row.old ≡ 128) }
     ensures { Rowed (λ q. standing desks.now place (q + unsplit - split)) split 5 row.old row.new }
 {
     for q in split..5 {
@@ -136,8 +149,8 @@ fn pass_low(desks: &[f64], place: usize, split: usize, unsplit: usize, row: &mut
 }
 
 // Bands 5 to 20: the channels of four desks, one after the other.
-fn pass_desks(desks: &[f64], first: usize, row: &mut [f64])
-    requires { (first ≤ 1352) × ((length desks.now ≡ 1768) × (length row.old ≡ 128)) }
+fn pass_desks(desks: &[f64; DESKS], first: usize, row: &mut [f64])
+    requires { (first ≤ 1352) × (length row.old ≡ 128) }
     ensures { Rowed (λ q. cell 4 desks.now (first + 136 * ((q - 5) / 4) + (q - 5) % 4)) 5 21 row.old row.new }
 {
     for j in 0..4 {
@@ -146,9 +159,9 @@ fn pass_desks(desks: &[f64], first: usize, row: &mut [f64])
 }
 
 // Its other bands, up to the last of an all-pass channel. In both layouts band 5 is the first channel of a desk.
-fn pass_unsplit(desks: &[f64], place: usize, split: usize, unsplit: usize, row: &mut [f64])
+fn pass_unsplit(desks: &[f64; DESKS], place: usize, split: usize, unsplit: usize, row: &mut [f64])
     requires split_bound { (split ≤ 5) × ((split ≤ unsplit) × ((unsplit ≤ split + 27) × ((5 + unsplit - split) % 4 ≡ 0))) }
-    requires place_bound { (place ≤ 128) × ((length desks.now ≡ 1768) × (length row.old ≡ 128)) }
+    requires place_bound { (place ≤ 128) × (length row.old ≡ 128) }
     ensures { Rowed (λ q. standing desks.now place (q + unsplit - split)) split 23 row.old row.new }
 {
     pass_low(desks, place, split, unsplit, row);
@@ -160,8 +173,8 @@ fn pass_unsplit(desks: &[f64], place: usize, split: usize, unsplit: usize, row: 
 }
 
 // One side of a slot.
-fn leave_side(layout: Layout, desks: &[f64], place: usize, row: &mut [f64])
-    requires { (place ≤ 128) × ((length desks.now ≡ 1768) × (length row.old ≡ 128)) }
+fn leave_side(layout: Layout, desks: &[f64; DESKS], place: usize, row: &mut [f64])
+    requires { (place ≤ 128) × (length row.old ≡ 128) }
     ensures { Rowed (synthesised layout (standing desks.now place)) 0 23 row.old row.new }
 {
     add_split(layout, desks, place, row);
@@ -169,8 +182,8 @@ fn leave_side(layout: Layout, desks: &[f64], place: usize, row: &mut [f64])
 }
 
 // Slot n of both sides.
-pub fn leave(layout: Layout, desks: &[f64], n: usize, left: &mut [f64], right: &mut [f64])
-    requires n_bound { (n < 32) × (length desks.now ≡ 1768) }
+pub fn leave(layout: Layout, desks: &[f64; DESKS], n: usize, left: &mut [f64], right: &mut [f64])
+    requires n_bound { n < 32 }
     requires n_in_bounds { (128 * n + 128 ≤ length left.old) × (128 * n + 128 ≤ length right.old) }
     ensures left { Left layout (desk_of left_on desks.now) n left.old left.new }
     ensures right { Left layout (desk_of right_on desks.now) n right.old right.new }

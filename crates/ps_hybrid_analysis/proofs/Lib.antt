@@ -1,3 +1,4 @@
+pub mod Pasted
 pub mod Spans
 pub mod Runs
 pub mod Taps

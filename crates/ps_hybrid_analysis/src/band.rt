@@ -8,10 +8,8 @@ fn past(history: &[f64], band: &mut [f64; 88])
     requires { length history.now ≡ 12 }
     ensures { band.new ≡ planar 44 (overwritten 6 (cell 6 history.now) (cell 44 band.old)) }
 {
-    for j in 0..6 {
-        band[j] = history[j];
-        band[j + 44] = history[j + 6];
-    }
+    band[..6].copy_from_slice(&history[..6]);
+    band[44..50].copy_from_slice(&history[6..]);
 }
 
 // And after them the input's, `count` in all.
@@ -43,8 +41,6 @@ pub fn keep(band: &[f64; 88], slots: usize, history: &mut [f64])
     requires { (slots ≤ 32) × (length history.old ≡ 12) }
     ensures { history.new ≡ planar 6 (λ j. cell 44 band.now (slots + j)) }
 {
-    for j in 0..6 {
-        history[j] = band[slots + j];
-        history[j + 6] = band[slots + j + 44];
-    }
+    history[..6].copy_from_slice(&band[slots..slots + 6]);
+    history[6..12].copy_from_slice(&band[slots + 44..slots + 50]);
 }

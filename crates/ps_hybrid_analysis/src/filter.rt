@@ -24,8 +24,8 @@ fn floats(roots: &[i64], order: usize, out: &mut [f64; 48])
     }
 }
 
-// The unit roots that modulate a prototype, made once for all filters of a band.
-pub fn waves(prototype: Prototype, out: &mut [f64; 48])
+// The unit roots that modulate a prototype.
+fn lay_waves(prototype: Prototype, out: &mut [f64; 48])
     ensures { Waves prototype out.new }
 {
     match prototype {
@@ -37,36 +37,60 @@ pub fn waves(prototype: Prototype, out: &mut [f64; 48])
     }
 }
 
-// Tap m of a prototype, which is g, modulated for filter q.
-fn modulated(prototype: Prototype, waves: &[f64; 48], g: f64, q: usize, m: usize) -> Complex
-    requires q_bound { (q < 12) × (m < 13) × (g ≡ get_or (prototype_of prototype) m zero) }
-    requires roots { Waves prototype waves.now }
-    ensures { result ≡ tap prototype q m }
-{
-    let turn = plan::turn(prototype, q, m);
-    if plan::is_complex(prototype) {
-        Complex {
-            re: g * waves[2 * turn],
-            im: g * waves[2 * turn + 1],
-        }
-    } else {
-        Complex {
-            re: g * waves[2 * turn],
-            im: 0.0,
-        }
-    }
+// A prototype with what the taps of its filters are made of, once for all of a band: its numbers, and the unit roots that modulate them.
+#[derive(Drop)]
+pub struct Bank {
+    pub prototype: Prototype,
+    g: [f64; 13],
+    waves: [f64; 48],
+    ghost own: { g ≡ prototype_of prototype },
+    ghost roots: { Waves prototype waves },
 }
 
-// The 13 taps of filter q.
-pub fn taps(prototype: Prototype, waves: &[f64; 48], g: &[f64; 13], q: usize, out: &mut [f64; 26])
-    requires roots { Waves prototype waves.now × (g.now ≡ prototype_of prototype) }
-    requires q_bound { q < 12 }
-    ensures { out.new ≡ planar 13 (tap prototype q) }
-{
-    for m in 0..13 {
-        let v = modulated(prototype, waves, g[m], q, m);
-        out[m] = v.re;
-        out[m + 13] = v.im;
+impl Bank {
+    pub fn new(prototype: Prototype) -> Bank
+        ensures { result.prototype ≡ prototype }
+    {
+        let g = prototype.taps();
+        let mut waves = [0.0; 48];
+        lay_waves(prototype, &mut waves);
+        Bank {
+            prototype,
+            g,
+            waves,
+        }
+    }
+
+    // Tap m of filter q.
+    fn modulated(&self, q: usize, m: usize) -> Complex
+        requires { (q < 12) × (m < 13) }
+        ensures { result ≡ tap self.now.prototype q m }
+    {
+        let turn = plan::turn(self.prototype, q, m);
+        let g = self.g[m];
+        if plan::is_complex(self.prototype) {
+            Complex {
+                re: g * self.waves[2 * turn],
+                im: g * self.waves[2 * turn + 1],
+            }
+        } else {
+            Complex {
+                re: g * self.waves[2 * turn],
+                im: 0.0,
+            }
+        }
+    }
+
+    // The 13 taps of filter q.
+    pub fn taps(&self, q: usize, out: &mut [f64; 26])
+        requires { q < 12 }
+        ensures { out.new ≡ planar 13 (tap self.now.prototype q) }
+    {
+        for m in 0..13 {
+            let v = self.modulated(q, m);
+            out[m] = v.re;
+            out[m + 13] = v.im;
+        }
     }
 }
 

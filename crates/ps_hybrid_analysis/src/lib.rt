@@ -8,7 +8,6 @@ mod plan;
 ghost use Rattle.std.specs.Prelude.{◌≡◌, ◌++◌, ℕ, suc, ◌+◌, ◌*◌, ◌<◌, ◌≤◌, length, drop};
 ghost use Rattle.borders.specs.Borders.{slots_of};
 ghost use Rattle.complex.specs.Operations.{sum};
-ghost use Rattle.decimals.specs.Prototypes.{prototype_of};
 ghost use Rattle.layout.specs.Numbers.{split_of, unsplit_from_of, first_channel_of};
 ghost use Rattle.lists.specs.Rows.{rows};
 ghost use Rattle.planar.specs.Cells.{cell, planar, overwritten};
@@ -16,10 +15,11 @@ ghost use Rattle.planar.specs.Frame.{sample_at};
 ghost use Rattle.standard.specs.Numbers.{nought};
 ghost use Rattle.standard.specs.Hybrid.{prototype_for, filters_of, channel_for, filtered, joined_to, hybrid};
 ghost use Rattle.ps_hybrid_analysis.specs.Analysis.{slot_at, answer_of, history_after, samples_after};
-ghost use Rattle.ps_hybrid_analysis.specs.Stages.{Waves, band_at, Written};
+ghost use Rattle.ps_hybrid_analysis.specs.Stages.{band_at, Written};
 
 use answer::Answer;
 use decimals::Prototype;
+use filter::Bank;
 use layout::Layout;
 
 // A channel's slots are 0, before its filters are added.
@@ -27,10 +27,8 @@ fn silence_run(run: &mut [f64], slots: usize)
     requires { (length run.old ≡ 64) × (slots ≤ 32) }
     ensures { run.new ≡ planar 32 (overwritten slots (λ n. nought) (cell 32 run.old)) }
 {
-    for n in 0..slots {
-        run[n] = 0.0;
-        run[n + 32] = 0.0;
-    }
+    run[..slots].fill(0.0);
+    run[32..32 + slots].fill(0.0);
 }
 
 // The channels of a split band.
@@ -48,23 +46,20 @@ fn silence(samples: &mut [f64], from: usize, to: usize, slots: usize)
 fn apply(
     layout: Layout,
     p: usize,
-    prototype: Prototype,
-    waves: &[f64; 48],
-    g: &[f64; 13],
+    bank: &Bank,
     q: usize,
     band: &[f64; 88],
     slots: usize,
     samples: &mut [f64],
 )
-    requires prototype_value { (prototype ≡ prototype_for layout p) × ((p < split_of layout) × (q < filters_of prototype)) }
-    requires roots { Waves prototype waves.now × (g.now ≡ prototype_of prototype) }
+    requires prototype_value { (bank.now.prototype ≡ prototype_for layout p) × ((p < split_of layout) × (q < filters_of bank.now.prototype)) }
     requires room { (64 * unsplit_from_of layout ≤ length samples.old) × (slots ≤ 32) }
     ensures { Written slots (channel_for layout p q) (channel_for layout p q + 1)
-        (λ k n. sum (sample_at samples.old n k) (filtered prototype q (cell 44 band.now) n))
+        (λ k n. sum (sample_at samples.old n k) (filtered bank.now.prototype q (cell 44 band.now) n))
         samples.old samples.new }
 {
     let mut taps = [0.0; 26];
-    filter::taps(prototype, waves, g, q, &mut taps);
+    bank.taps(q, &mut taps);
     let k = plan::channel(layout, p, q);
     let at = 64 * k;
     filter::join(&taps, band, slots, &mut samples[at..at + 64]);
@@ -74,27 +69,24 @@ fn apply(
 fn apply_all(
     layout: Layout,
     p: usize,
-    prototype: Prototype,
-    waves: &[f64; 48],
-    g: &[f64; 13],
+    bank: &Bank,
     band: &[f64; 88],
     slots: usize,
     samples: &mut [f64],
 )
-    requires prototype_value { (prototype ≡ prototype_for layout p) × (p < split_of layout) }
-    requires roots { Waves prototype waves.now × (g.now ≡ prototype_of prototype) }
+    requires prototype_value { (bank.now.prototype ≡ prototype_for layout p) × (p < split_of layout) }
     requires room { (64 * unsplit_from_of layout ≤ length samples.old) × (slots ≤ 32) }
     requires by_index { (k n : ℕ) → first_channel_of layout p ≤ k → k < first_channel_of layout (suc p) → n < slots → sample_at samples.old n k ≡ nought }
     ensures { Written slots (first_channel_of layout p) (first_channel_of layout (suc p))
-        (λ k n. joined_to layout p (cell 44 band.now) n k (filters_of prototype)) samples.old samples.new }
+        (λ k n. joined_to layout p (cell 44 band.now) n k (filters_of bank.now.prototype)) samples.old samples.new }
 {
-    let count = plan::filters_of(prototype);
+    let count = plan::filters_of(bank.prototype);
     for q in 0..count {
-        apply(layout, p, prototype, waves, g, q, band, slots, samples);
+        apply(layout, p, bank, q, band, slots, samples);
     }
 }
 
-// The prototype and its unit roots, made once for a band.
+// The filters of a prototype, made ready once for a band.
 fn modulate(
     layout: Layout,
     p: usize,
@@ -109,10 +101,7 @@ fn modulate(
     ensures { Written slots (first_channel_of layout p) (first_channel_of layout (suc p))
         (λ k n. joined_to layout p (cell 44 band.now) n k (filters_of prototype)) samples.old samples.new }
 {
-    let g = prototype.taps();
-    let mut waves = [0.0; 48];
-    filter::waves(prototype, &mut waves);
-    apply_all(layout, p, prototype, &waves, &g, band, slots, samples);
+    apply_all(layout, p, &Bank::new(prototype), band, slots, samples);
 }
 
 // The hybrid channels of QMF band p, from its slots.

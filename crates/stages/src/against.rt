@@ -5,7 +5,7 @@ ghost use Rattle.std.specs.Prelude.{◌≤◌};
 use super::carried::Carried;
 use super::compare::{Fault, Stage};
 use super::play::{Call, INPUT};
-use super::stream::{Head, Next};
+use super::stream::{Head, Piece};
 use super::{carried, compare, play, stream};
 use layout::Layout;
 use std::io::Read;
@@ -98,14 +98,16 @@ impl Replay {
 
     fn next(&mut self, rt: &impl Print, reader: &mut impl Read) -> ControlFlow<()> {
         match stream::next(reader) {
-            Next::Frame(head) => self.frame(rt, reader, head),
-            Next::End => {
+            Piece::Frame(head) => self.frame(rt, reader, head),
+            Piece::End => {
                 let frames = self.frames;
                 let runs = self.runs;
-                let _ = println!(rt; "held: {frames} frames in {runs} runs, every channel at each stage and both sides, bit for bit");
+                let _ = println!(rt;
+                    "held: {frames} frames in {runs} runs, every channel at each stage and both sides, bit for bit"
+                );
                 ControlFlow::Break(())
             }
-            Next::Broken(head) => {
+            Piece::Broken(head) => {
                 let _ = println!(rt; "{head}: the stream ends before its end is said");
                 ControlFlow::Break(())
             }

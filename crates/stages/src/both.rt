@@ -87,7 +87,9 @@ impl Both {
     pub fn conclude(&self, rt: &impl Print) {
         let frames = self.frames;
         let compared = self.compared;
-        let _ = print!(rt; "queues: {frames} frames, {compared} numbers of left and right compared with the decoder's: ");
+        let _ = print!(rt;
+            "queues: {frames} frames, {compared} numbers of left and right compared with the decoder's: "
+        );
         let _ = match self.differing {
             0 => println!(rt; "all equal, bit for bit"),
             differing => println!(rt; "{differing} differ"),

@@ -3,9 +3,8 @@ ghost use Rattle.std.specs.Prelude.{◌*◌, ◌≤◌, length};
 
 use super::play::{ROW, Stages};
 use layout::Layout;
-use std::fmt;
-use std::io;
 use std::io::Read;
+use std::{fmt, io};
 
 #[derive(Clone, Copy, Debug, PartialEq, Eq)]
 pub enum Stage {

@@ -13,7 +13,7 @@ struct Scaled {
 }
 
 // Of a finite number above 0. 400 turns are more than any needs.
-fn scaled(x: f64) -> Scaled {
+fn scale(x: f64) -> Scaled {
     let mut number = x;
     let mut exponent = 0i32;
     for _turn in 0..400usize {
@@ -42,7 +42,7 @@ impl fmt::Display for Decimal {
         if x.is_infinite() {
             return write!(f, "{sign}inf");
         }
-        let now = scaled(x.abs());
+        let now = scale(x.abs());
         let exponent = now.exponent;
         let seven = std::num::saturating_f64_to_u64(now.number * 1000000.0 + 0.5);
         // A rounding that reaches ten is 1 with the next exponent.

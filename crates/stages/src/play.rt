@@ -54,30 +54,33 @@ fn none() -> Stages {
 
 impl Stages {
     // Both sides of slot n, from its samples and their de-correlation.
-    fn mix(&mut self, layout: Layout, n: usize, runs: &[f64])
+    fn mix(
+        &mut self,
+        layout: Layout,
+        n: usize,
+        runs: &[f64],
+        samples: &[f64; ROW],
+        decorrelated: &[f64; ROW],
+    )
         requires { n < 32 }
     {
-        let at = ROW * n;
+        let mut left = [0.0; ROW];
+        let mut right = [0.0; ROW];
         plain_slots::mix(
             layout,
             n,
             runs,
-            &self.samples[at..at + ROW],
-            &self.decorrelated[at..at + ROW],
-            &mut self.lefts[at..at + ROW],
-            &mut self.rights[at..at + ROW],
+            samples,
+            decorrelated,
+            &mut left,
+            &mut right,
         );
+        let at = ROW * n;
+        self.lefts[at..at + ROW].copy_from_slice(&left);
+        self.rights[at..at + ROW].copy_from_slice(&right);
         let qmf = 128 * n;
-        plain_slots::synthesise(
-            layout,
-            &self.lefts[at..at + ROW],
-            &mut self.left[qmf..qmf + 128],
-        );
-        plain_slots::synthesise(
-            layout,
-            &self.rights[at..at + ROW],
-            &mut self.right[qmf..qmf + 128],
-        );
+        plain_slots::synthesise(layout, &left, &mut self.left[qmf..qmf + 128]);
+        plain_slots::synthesise(layout, &right, &mut self.right[qmf..qmf + 128]);
     }
 
     // Slot n at every stage, of queues that are ready for it. The lists begin with the slot, so that the queues are handed a frame of one slot.
@@ -91,17 +94,14 @@ impl Stages {
     ) -> QueueDecorr
         requires { n < 32 }
     {
-        let layout = before.layout;
         let at = ROW * n;
-        plain_slots::samples(layout, 0, split, input, &mut self.samples[at..at + ROW]);
-        let after = queue_decorr::decorrelate(
-            before,
-            1,
-            split,
-            input,
-            &mut self.decorrelated[at..at + ROW],
-        );
-        self.mix(layout, n, runs);
+        let mut samples = [0.0; ROW];
+        plain_slots::samples(before.layout, 0, split, input, &mut samples);
+        self.samples[at..at + ROW].copy_from_slice(&samples);
+        let mut decorrelated = [0.0; ROW];
+        let after = queue_decorr::decorrelate(before, 1, split, input, &mut decorrelated);
+        self.decorrelated[at..at + ROW].copy_from_slice(&decorrelated);
+        self.mix(before.layout, n, runs, &samples, &decorrelated);
         after
     }
 }

@@ -64,8 +64,7 @@ fn say_band(rt: &impl Print, state: &QueueDecorr, n: usize, k: usize, stages: &S
         difference: state.detectors[3 * b + 2],
     };
     let factor = ps_decorr_transient::factor(now);
-    let _ = println!(
-        rt;
+    let _ = println!(rt;
         "  band {b} power {} peak {} smooth {} difference {} factor {}",
         Decimal(power),
         Decimal(now.peak),
@@ -81,13 +80,16 @@ fn say_slot(rt: &impl Print, state: &QueueDecorr, n: usize, k: usize, stages: &S
 {
     let at = ROW * n + 2 * k;
     let _ = println!(rt; " slot {n}");
-    let _ = println!(rt; "  in {} {}", Decimal(stages.samples[at]), Decimal(stages.samples[at + 1]));
+    let _ = println!(rt;
+        "  in {} {}",
+        Decimal(stages.samples[at]),
+        Decimal(stages.samples[at + 1])
+    );
     let mut queues = [0.0; 28];
     queue_decorr::channel_queues(*state, k, &mut queues);
     say_queues(rt, state.layout.kind(k), &queues);
     say_band(rt, state, n, k, stages);
-    let _ = println!(
-        rt;
+    let _ = println!(rt;
         "  out {} {}",
         Decimal(stages.decorrelated[at]),
         Decimal(stages.decorrelated[at + 1])
@@ -95,16 +97,12 @@ fn say_slot(rt: &impl Print, state: &QueueDecorr, n: usize, k: usize, stages: &S
 }
 
 // A slot, where a channel that the layout has is wanted.
-pub fn slot(
-    rt: &impl Print,
-    state: &QueueDecorr,
-    n: usize,
-    wanted: Option<usize>,
-    stages: &Stages,
-)
+pub fn slot(rt: &impl Print, state: &QueueDecorr, n: usize, wanted: Option<usize>, stages: &Stages)
     requires { n < 32 }
 {
-    if let Some(k) = wanted && k < state.layout.channels() {
+    if let Some(k) = wanted
+        && k < state.layout.channels()
+    {
         say_slot(rt, state, n, k, stages);
     }
 }

@@ -1,7 +1,6 @@
 // What `oracle stage-runs` writes, read piece by piece.
-use std::fmt;
-use std::io;
 use std::io::Read;
+use std::{fmt, io};
 
 // What stands before a frame.
 #[derive(Clone, Copy)]
@@ -32,7 +31,7 @@ impl fmt::Display for Head {
 
 // What comes next in the stream.
 #[derive(Clone, Copy)]
-pub enum Next {
+pub enum Piece {
     Frame(Head),
     // The stream says that it ends.
     End,
@@ -56,16 +55,16 @@ fn head_of(bytes: &[u8; 48]) -> Head {
     }
 }
 
-pub fn next(reader: &mut impl Read) -> Next {
+pub fn next(reader: &mut impl Read) -> Piece {
     let mut bytes = [0u8; 48];
     if reader.read_exact(&mut bytes).is_err() {
-        return Next::Broken(head_of(&[0u8; 48]));
+        return Piece::Broken(head_of(&[0u8; 48]));
     }
     let head = head_of(&bytes);
     match bytes[0] {
-        0 => Next::End,
-        1 => Next::Frame(head),
-        _ => Next::Broken(head),
+        0 => Piece::End,
+        1 => Piece::Frame(head),
+        _ => Piece::Broken(head),
     }
 }
 

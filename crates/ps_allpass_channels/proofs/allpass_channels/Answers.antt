@@ -1,35 +1,32 @@
 -- `ps_allpass_channels::allpass_channels` meets its contract: lists without room change nothing, and otherwise the frame is done. Assumes nothing.
-use mathlib.Core.Path.{◌≡◌}
-use mathlib.Core.Bool.{Bool, false, and-false}
+use mathlib.Core.Bool.{and-false}
 use Prim.Native.Nat.{◌*◌, min}
 use native.Mathlib.Omega.{arith}
-use borrow.Author.Rules.{rules}
 use borrow.Author.Tests.{ne_eqb, lt-leb}
 use lib.ListN.{length}
 use Rattle.layout.specs.Numbers.{bands_of, groups_of, unsplit_from_of}
 use Rattle.layout.proofs.Bounds.{bounds}
 use Rattle.limits.specs.Limits as limits
-use Rattle.ps_allpass_channels.specs.Channels.{fits}
 use Rattle.ps_allpass_channels.specs.Slots.{Roomy}
-use Rattle.ps_allpass_channels.proofs.Ending.{cut_to, Outcome, unfit, done}
+use Rattle.ps_allpass_channels.proofs.Ending.{cut_to, unfit, done}
 use Rattle.ps_allpass_channels.proofs.allpass_channels.Goals as goal
 
 pub returns-then-left-slots : goal.returns-then-left-slots
 returns-then-left-slots c =
     let a = c.args in
-    let p = unfit a.layout a.timing a.table.now a.samples.now a.gains.now a.rows.now a.input.now a.delays.now a.left.now a.right.now (rw (ne_eqb (length a.left.now) (128 * min a.timing.slots 32) (rw (← c.least-slots.ensures) c.if-left-slots.true))) in
+    let p = unfit a.layout a.timing a.table.now a.samples.now a.gains.now a.rows.now a.input.now a.delays.now a.left.now a.right.now (rw (ne_eqb (length a.left.now) (128 * min a.timing.slots 32) (rw (← c.min-slots.ensures) c.if-left-slots.true))) in
     record { left = p.0; right = p.1.0; delays = p.1.1 }
 
 pub returns-then-right-slots : goal.returns-then-right-slots
 returns-then-right-slots c =
     let a = c.args in
-    let p = unfit a.layout a.timing a.table.now a.samples.now a.gains.now a.rows.now a.input.now a.delays.now a.left.now a.right.now (simp (ne_eqb (length a.right.now) (128 * min a.timing.slots 32) (rw (← c.least-slots.ensures) c.if-right-slots.true), and-false)) in
+    let p = unfit a.layout a.timing a.table.now a.samples.now a.gains.now a.rows.now a.input.now a.delays.now a.left.now a.right.now (simp (ne_eqb (length a.right.now) (128 * min a.timing.slots 32) (rw (← c.min-slots.ensures) c.if-right-slots.true), and-false)) in
     record { left = p.0; right = p.1.0; delays = p.1.1 }
 
 pub returns-then-input-slots : goal.returns-then-input-slots
 returns-then-input-slots c =
     let a = c.args in
-    let p = unfit a.layout a.timing a.table.now a.samples.now a.gains.now a.rows.now a.input.now a.delays.now a.left.now a.right.now (simp (lt-leb (128 * min a.timing.slots 32) (length a.input.now) (rw (← c.least-slots.ensures) c.if-input-slots.true), and-false)) in
+    let p = unfit a.layout a.timing a.table.now a.samples.now a.gains.now a.rows.now a.input.now a.delays.now a.left.now a.right.now (simp (lt-leb (128 * min a.timing.slots 32) (length a.input.now) (rw (← c.min-slots.ensures) c.if-input-slots.true), and-false)) in
     record { left = p.0; right = p.1.0; delays = p.1.1 }
 
 pub overflow_mul-unsplit_from : goal.overflow_mul-unsplit_from
@@ -72,9 +69,9 @@ returns-then-delays-groups c =
 pub frame-requires : goal.frame-requires
 frame-requires c =
     let a = c.args in
-    let roomy : Roomy a.layout (cut_to c.least-slots.result a.timing)
+    let roomy : Roomy a.layout (cut_to c.min-slots.result a.timing)
     a.samples.now a.gains.now a.rows.now a.input.now a.delays.now a.left.now a.right.now = record {
-      few = omega (arith, c.least-slots.ensures);
+      few = omega (arith, c.min-slots.ensures);
       turn = omega arith;
       samples_long = rw (← c.unsplit_from.ensures) c.if-samples-unsplit_from.false;
       gains_long = rw (← c.bands-bands.ensures) c.if-gains-bands.false;
@@ -89,9 +86,9 @@ frame-requires c =
 pub returns : goal.returns
 returns c =
     let a = c.args in
-    let roomy : Roomy a.layout (cut_to c.least-slots.result a.timing)
+    let roomy : Roomy a.layout (cut_to c.min-slots.result a.timing)
     a.samples.now a.gains.now a.rows.now a.input.now a.delays.now a.left.now a.right.now = record {
-      few = omega (arith, c.least-slots.ensures);
+      few = omega (arith, c.min-slots.ensures);
       turn = omega arith;
       samples_long = rw (← c.unsplit_from.ensures) c.if-samples-unsplit_from.false;
       gains_long = rw (← c.bands-bands.ensures) c.if-gains-bands.false;
@@ -102,6 +99,6 @@ returns c =
       right_long = c.if-right-slots.false;
     } in
     let f = c.frame.ensures in
-    let p = done a.layout a.timing a.table.now a.samples.now a.gains.now a.rows.now a.input.now a.delays.now c.least-slots.result
-    a.left.now a.right.now c.least-slots.ensures roomy _ _ _ (f.left, (f.right, f.delays)) in
+    let p = done a.layout a.timing a.table.now a.samples.now a.gains.now a.rows.now a.input.now a.delays.now c.min-slots.result
+    a.left.now a.right.now c.min-slots.ensures roomy _ _ _ (f.left, (f.right, f.delays)) in
     record { left = p.0; right = p.1.0; delays = p.1.1 }

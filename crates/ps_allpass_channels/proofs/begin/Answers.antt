@@ -1,7 +1,6 @@
 -- `ps_allpass_channels::begin` meets its contract: the coefficients that are there are the region's, or they are laid. Assumes nothing.
 use mathlib.Core.Path.{refl, sym, subst}
 use Prim.Native.Nat.{ℕ, ◌+◌, ◌≤◌, min}
-use borrow.Author.Rules.{rules}
 use Rattle.ps_allpass_channels.specs.Desks.{Wayed}
 use Rattle.ps_allpass_channels.proofs.begin.Goals as goal
 
@@ -14,4 +13,4 @@ returns-then-region-old c =
 
 pub returns : goal.returns
 returns c =
-    record { way = rw (← c.least.ensures) c.ways.ensures.way; chains = c.ways.ensures.chains }
+    record { way = rw (← c.min.ensures) c.ways.ensures.way; chains = c.ways.ensures.chains }

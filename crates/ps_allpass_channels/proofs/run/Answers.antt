@@ -1,22 +1,12 @@
 -- `ps_allpass_channels::run` meets its contract: after n turns the frame's first n slots are done, and the desks have its last region's coefficients.
 -- Assumes nothing.
-use mathlib.Core.Path.{◌≡◌, refl, sym, ◌∙◌}
-use mathlib.Core.List.{List}
-use Prim.Native.Nat.{ℕ, ◌+◌, ◌-◌, ◌≤◌, ◌<◌, min}
+use mathlib.Core.Path.{◌≡◌, refl, ◌∙◌}
+use Prim.Native.Nat.{◌<◌, min}
 use borrow.Author.Rules.{rules}
 use native.Mathlib.Omega.{arith}
-use lib.IntN.{ℤ}
-use lib.Ieee.{Float}
-use lib.ListN.{length, length-map}
-use Rattle.layout.specs.declared.Layout.{Layout}
+use lib.ListN.{length}
 use Rattle.limits.specs.Limits as limits
-use Rattle.ps_allpass_groups.specs.Desk.{chain_on}
-use Rattle.ps_map.specs.Bands.{parameter_map}
-use Rattle.ps_stereo_slots.specs.declared.Timing.{Timing}
 use Rattle.ps_stereo_slots.proofs.Located.{region_within}
-use Rattle.standard.specs.Channel.{chain_from}
-use Rattle.ps_allpass_channels.specs.Desks.{desk_of, Lies, Wayed}
-use Rattle.ps_allpass_channels.specs.Slots.{Reached}
 use Rattle.ps_allpass_channels.proofs.Coefficients.{matrix_is}
 use Rattle.ps_allpass_channels.proofs.Reaching.{none, more, all}
 use Rattle.ps_allpass_channels.proofs.run.Goals as goal
@@ -28,14 +18,14 @@ loop-n-init c =
       within = omega arith;
       ends = refl;
       mapped = c.parameter_map-map.ensures;
-      counted = c.least-count.ensures;
+      counted = c.min-count.ensures;
       desks_long = refl;
       delays_long = refl;
       left_long = refl;
       right_long = refl;
-      begun = λ h. absurd (omega (arith, c.least-count.ensures));
+      begun = λ h. absurd (omega (arith, c.min-count.ensures));
       chains = λ k u. refl;
-      sofar = λ table laid. none a.layout a.timing table a.samples.now a.gains.now a.rows.now a.input.now a.delays.now a.left.now a.right.now;
+      sofar = λ table laid. none a.layout a.timing table a.lent.samples.now a.lent.gains.now a.lent.rows.now a.lent.input.now a.delays.now a.left.now a.right.now;
     }
 
 pub begin-requires : goal.begin-requires
@@ -43,7 +33,7 @@ begin-requires c =
     let l = c.loop-n in
     let a = c.args in
     record {
-      map_value = (l.invariant.mapped, c.requires.roomy.rows_long, l.invariant.desks_long ∙ c.requires.desks_len);
+      map_value = (l.invariant.mapped, c.requires.rows_long);
       region_le_count = (
         omega (arith, c.region_in-next.ensures, l.invariant.counted, region_within a.timing.borders (min a.timing.count limits.envelopes) (min l.n 31)),
         omega (arith, l.invariant.counted),
@@ -53,18 +43,18 @@ begin-requires c =
 
 pub overflow_add-moment : goal.overflow_add-moment
 overflow_add-moment c =
-    let r = c.requires.roomy in
+    let r = c.requires in
     omega (arith, r.turn, r.few, c.loop-n.invariant.ends, c.loop-n-test.true)
 
 pub slot-requires : goal.slot-requires
 slot-requires c =
     let v = c.loop-n.invariant in
-    let r = c.requires.roomy in
+    let r = c.requires in
     let room = c.loop-n-test.true in
     record {
       map_value = (v.mapped, omega (arith, room, r.few, v.ends), omega (arith, room, r.input_long, v.ends));
       layout_in_bounds = (r.samples_long, r.gains_long);
-      desks_len = (omega (arith, v.desks_long, c.requires.desks_len), omega (arith, v.delays_long, r.delays_long));
+      delays_len = omega (arith, v.delays_long, r.delays_long);
       n_in_bounds = (omega (arith, room, v.left_long, r.left_long, v.ends), omega (arith, room, v.right_long, r.right_long, v.ends));
     }
 
@@ -73,9 +63,9 @@ loop-n-preserved c =
     let l = c.loop-n in
     let a = c.args in
     let room = c.loop-n-test.true in
-    let few : l.n < 32 = omega (arith, room, c.requires.roomy.few, l.invariant.ends) in
+    let few : l.n < 32 = omega (arith, room, c.requires.few, l.invariant.ends) in
     let long : length a.timing.borders ≡ limits.envelopes = search rules in
-    let count = c.least-count.result in
+    let count = c.min-count.result in
     let region = c.region_in-next.result in
     let way = c.begin.ensures.way in
     let s = c.slot.ensures in
@@ -91,14 +81,11 @@ loop-n-preserved c =
       begun = λ h. record { from = λ k u. s.from k u ∙ way.from k u; step = λ k u. s.step k u ∙ way.step k u };
       chains = λ k u. s.chain k u ∙ c.begin.ensures.chains k u ∙ l.invariant.chains k u;
       sofar = λ table laid.
-          more a.layout a.timing table a.samples.now a.gains.now a.rows.now a.input.now a.delays.now l.n _ _ _
+          more a.layout a.timing table a.lent.samples.now a.lent.gains.now a.lent.rows.now a.lent.input.now a.delays.now l.n _ _ _
           (λ k u. c.begin.ensures.chains k u ∙ l.invariant.chains k u ∙ laid k u)
-          (λ k u. matrix_is a.layout a.timing table a.samples.now a.gains.now a.rows.now a.input.now a.delays.now l.n count region _ few long l.invariant.counted c.region_in-next.ensures c.share_in.ensures _ k u way)
+          (λ k u. matrix_is a.layout a.timing table a.lent.samples.now a.lent.gains.now a.lent.rows.now a.lent.input.now a.delays.now l.n count region _ few long l.invariant.counted c.region_in-next.ensures c.share_in.ensures _ k u way)
           a.left.now a.right.now _ _ _ _ _ _ _ (l.invariant.sofar table laid) s;
     }
-
-pub shape_of-desks : goal.shape_of-desks
-shape_of-desks c = c.loop-n.invariant.desks_long
 
 pub shape_of-delays : goal.shape_of-delays
 shape_of-delays c = c.loop-n.invariant.delays_long
@@ -115,5 +102,5 @@ returns c =
     let a = c.args in
     let whole : l.n ≡ a.timing.slots = omega (arith, l.invariant.within, l.invariant.ends, c.loop-n-test.false) in
     λ table laid.
-    all a.layout a.timing table a.samples.now a.gains.now a.rows.now a.input.now a.delays.now l.n a.left.now a.right.now _ _ _ whole
+    all a.layout a.timing table a.lent.samples.now a.lent.gains.now a.lent.rows.now a.lent.input.now a.delays.now l.n a.left.now a.right.now _ _ _ whole
     (l.invariant.sofar table laid)

@@ -10,7 +10,7 @@ use Rattle.ps_hybrid_analysis.proofs.apply.Goals as goal
 
 pub taps-requires : goal.taps-requires
 taps-requires c =
-    record { roots = c.requires.roots; q_bound = omega (arith, filters_most c.args.prototype) }
+    omega (arith, filters_most c.args.bank.now.prototype)
 
 pub channel-k-requires : goal.channel-k-requires
 channel-k-requires c =
@@ -31,5 +31,5 @@ returns c =
     let taps = c.taps.new.out in
     rw (← c.channel-k.ensures.0)
     (written_added a.slots k (64 * k + 64 - 64 * k) (λ n. convolved (cell 13 taps) (cell 44 a.band.now) n 13)
-    (filtered a.prototype a.q (cell 44 a.band.now)) a.samples.now c.join.new.run (width _ _) (omega (arith, c.channel-k.ensures.1, c.requires.room.0))
-    c.requires.room.1 c.join.ensures (λ n. filtered_is a.prototype a.q taps (cell 44 a.band.now) n c.taps.ensures))
+    (filtered a.bank.now.prototype a.q (cell 44 a.band.now)) a.samples.now c.join.new.run (width _ _) (omega (arith, c.channel-k.ensures.1, c.requires.room.0))
+    c.requires.room.1 c.join.ensures (λ n. filtered_is a.bank.now.prototype a.q taps (cell 44 a.band.now) n c.taps.ensures))

@@ -16,7 +16,6 @@ pub apply-requires : goal.apply-requires
 apply-requires c =
     record {
       prototype_value = (c.requires.prototype_value.0, (c.requires.prototype_value.1, omega (arith, c.filters_of-count.ensures)));
-      roots = c.requires.roots;
       room = (rw c.loop-q.invariant.written.long c.requires.room.0, c.requires.room.1);
     }
 
@@ -24,12 +23,12 @@ pub loop-q-preserved : goal.loop-q-preserved
 loop-q-preserved c =
     let a = c.args in
     let q = c.loop-q.q in
-    let less : q < filters_of a.prototype = omega (arith, c.filters_of-count.ensures) in
+    let less : q < filters_of a.bank.now.prototype = omega (arith, c.filters_of-count.ensures) in
     let inside = channel_inside a.layout a.p q c.requires.prototype_value.1 (rw c.requires.prototype_value.0 at less) in
     record {
       within = omega arith;
       written =
-          joined_more a.layout a.p (cell 44 a.band.now) q a.prototype c.requires.prototype_value.0 c.loop-q.invariant.written c.apply.ensures
+          joined_more a.layout a.p (cell 44 a.band.now) q a.bank.now.prototype c.requires.prototype_value.0 c.loop-q.invariant.written c.apply.ensures
           c.requires.room.1 inside.from inside.to;
     }
 
@@ -38,5 +37,5 @@ shape_of-samples c = c.loop-q.invariant.written.long
 
 pub returns : goal.returns
 returns c =
-    let all : c.loop-q.q ≡ filters_of c.args.prototype = omega (arith, c.filters_of-count.ensures) in
+    let all : c.loop-q.q ≡ filters_of c.args.bank.now.prototype = omega (arith, c.filters_of-count.ensures) in
     rw all at c.loop-q.invariant.written

@@ -1,11 +1,10 @@
 -- `ps_allpass_channels::desks::duck_four` meets its contract: four numbers side by side are four channels' ducking factors. Assumes nothing.
-use mathlib.Core.Path.{◌≡◌, refl, ap, ◌∙◌}
+use mathlib.Core.Path.{◌≡◌, ap, ◌∙◌}
 use mathlib.Core.List.{List}
 use Prim.Native.Nat.{ℕ, ◌+◌, ◌*◌, ◌<◌}
 use native.Mathlib.Omega.{arith}
-use borrow.Author.Rules.{rules}
 use lib.Ieee.{Float, nan}
-use lib.ListN.{length, get_or, set, length-set}
+use lib.ListN.{length, get_or, set}
 use Rattle.ps_allpass_channels.specs.DeskNumbers.{Put}
 use Rattle.ps_allpass_channels.proofs.DeskRuns.{Run, run_none, run_more, run_put}
 use Rattle.ps_allpass_channels.proofs.desks.duck_four.Goals as goal
@@ -49,21 +48,9 @@ duck-d-requires c =
     let p = c.requires in
     (omega (arith, p.2), p.1, p.0 _)
 
-pub bounds-desks-at-2 : goal.bounds-desks-at-2
-bounds-desks-at-2 c = simp length-set (omega arith)
-
-pub bounds-desks-at-3 : goal.bounds-desks-at-3
-bounds-desks-at-3 c = simp length-set (omega arith)
-
-pub bounds-desks-at-4 : goal.bounds-desks-at-4
-bounds-desks-at-4 c = simp length-set (omega arith)
-
-pub shape_of-desks : goal.shape_of-desks
-shape_of-desks c = simp length-set refl
-
 pub returns : goal.returns
 returns c =
     let a = c.args in
     laid a.map.now a.gains.now a.n a.g
     (written a.map.now a.gains.now a.n a.g a.desks.now c.duck-a.result c.duck-b.result c.duck-c.result c.duck-d.result
-    c.requires.2 c.requires.3 c.duck-a.ensures c.duck-b.ensures c.duck-c.ensures c.duck-d.ensures)
+    c.requires.2 (omega arith) c.duck-a.ensures c.duck-b.ensures c.duck-c.ensures c.duck-d.ensures)

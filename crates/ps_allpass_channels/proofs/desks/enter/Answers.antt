@@ -1,7 +1,6 @@
 -- `ps_allpass_channels::desks::enter` meets its contract: samples of split bands, samples of the others, ducking factors. Assumes nothing.
 use mathlib.Core.Path.{◌∙◌}
 use native.Mathlib.Omega.{arith}
-use borrow.Author.Rules.{rules}
 use Rattle.layout.proofs.Bounds.{bounds}
 use Rattle.ps_allpass_channels.proofs.DeskReads.{same_chain, same_from, same_step}
 use Rattle.ps_allpass_channels.proofs.DeskLaid.{entered}

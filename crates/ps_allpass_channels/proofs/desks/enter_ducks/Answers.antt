@@ -1,13 +1,8 @@
 -- `ps_allpass_channels::desks::enter_ducks` meets its contract: each turn enters the ducking factors of one desk more. Assumes nothing.
 use mathlib.Core.Path.{◌≡◌, refl, ◌∙◌}
-use mathlib.Core.List.{List}
-use Prim.Native.Nat.{ℕ, ◌+◌, ◌-◌, ◌*◌, ◌≤◌, ◌<◌}
+use Prim.Native.Nat.{◌+◌, ◌*◌, ◌<◌}
 use native.Mathlib.Omega.{arith}
-use borrow.Author.Rules.{rules}
-use lib.Ieee.{Float, nan}
-use lib.ListN.{length, get_or}
 use Rattle.layout.proofs.Bounds.{bounds}
-use Rattle.ps_allpass_channels.specs.DeskNumbers.{Put}
 use Rattle.ps_allpass_channels.proofs.DeskPuts.{channels_none}
 use Rattle.ps_allpass_channels.proofs.DeskLaid.{band_fits}
 use Rattle.ps_allpass_channels.proofs.DeskRuns.{channels_on}
@@ -20,7 +15,7 @@ loop-g-init c =
     record {
       within = omega arith;
       few = omega (arith, c.groups-g-end.ensures, (bounds a.layout).groups);
-      whole = c.requires.3;
+      whole = omega arith;
       room = λ k. omega (arith, band_fits a.layout a.map.now k c.requires.0, c.requires.2);
       laid = channels_none 0 29 (λ j. j < 30) (duck_of a.map.now a.gains.now a.n) a.desks.now;
     }
@@ -29,7 +24,7 @@ pub duck_four-requires : goal.duck_four-requires
 duck_four-requires c =
     let v = c.loop-g.invariant in
     let p = c.requires in
-    (v.room, p.1, omega (arith, v.few, c.loop-g-test.true), v.whole)
+    (v.room, p.1, omega (arith, v.few, c.loop-g-test.true))
 
 pub loop-g-preserved : goal.loop-g-preserved
 loop-g-preserved c =

@@ -1,15 +1,9 @@
-use mathlib.Core.Path.{◌≡◌, refl, ◌∙◌}
+use mathlib.Core.Path.{◌≡◌}
 use mathlib.Core.List.{List}
 use Prim.Native.Nat.{ℕ, ◌+◌, ◌-◌, ◌*◌, ◌≤◌, ◌<◌}
-use native.Mathlib.Omega.{arith}
-use borrow.Author.Rules.{rules}
 use lib.Ieee.{Float, nan}
 use lib.ListN.{length, get_or}
-use Rattle.layout.proofs.Bounds.{bounds}
 use Rattle.ps_allpass_channels.specs.DeskNumbers.{Put}
-use Rattle.ps_allpass_channels.proofs.DeskPuts.{channels_none}
-use Rattle.ps_allpass_channels.proofs.DeskLaid.{band_fits}
-use Rattle.ps_allpass_channels.proofs.DeskRuns.{channels_on}
 use Rattle.ps_allpass_channels.proofs.desks.enter_ducks.Given as goal
 
 abbrev pub duck_of : List ℕ → List Float → ℕ → ℕ → ℕ → Float

@@ -3,12 +3,9 @@ use mathlib.Core.Path.{◌≡◌, ap, ◌∙◌}
 use mathlib.Core.List.{List}
 use Prim.Native.Nat.{ℕ, ◌+◌, ◌-◌, ◌*◌, ◌≤◌, ◌<◌}
 use native.Mathlib.Omega.{arith}
-use borrow.Author.Rules.{rules}
 use lib.Ieee.{Float}
-use lib.ListN.{length}
 use Rattle.planar.specs.Cells.{cell}
-use Rattle.planar.specs.Frame.{qmf_at}
-use Rattle.ps_allpass_channels.specs.DeskNumbers.{sample_number, Put}
+use Rattle.ps_allpass_channels.specs.DeskNumbers.{sample_number}
 use Rattle.ps_allpass_channels.proofs.DeskPuts.{channels_none}
 use Rattle.ps_allpass_channels.proofs.DeskRuns.{channels_on}
 use Rattle.ps_allpass_channels.proofs.desks.enter_high.Invariants.{sample_of}
@@ -25,7 +22,7 @@ loop-i-init c =
     let none : 4 * (a.first + 0) ≡ 4 * a.first = omega arith in
     record {
       within = omega arith;
-      whole = c.requires.3;
+      whole = omega arith;
       laid = rw none (channels_none (4 * a.first) 27 (λ j. j < 29) (sample_of a.input.now a.n a.first) a.desks.now);
     }
 

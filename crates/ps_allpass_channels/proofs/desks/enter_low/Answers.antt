@@ -1,13 +1,9 @@
 -- `ps_allpass_channels::desks::enter_low` meets its contract: each turn enters one channel's sample more. Assumes nothing.
 use mathlib.Core.Path.{◌≡◌, refl}
-use mathlib.Core.List.{List}
-use Prim.Native.Nat.{ℕ, ◌+◌, ◌-◌, ◌≤◌, ◌<◌}
+use Prim.Native.Nat.{◌+◌, ◌-◌, ◌<◌}
 use native.Mathlib.Omega.{arith}
-use borrow.Author.Rules.{rules}
-use lib.Ieee.{Float}
-use lib.ListN.{length, length-set}
+use lib.ListN.{length-set}
 use Rattle.planar.specs.Frame.{qmf_at}
-use Rattle.ps_allpass_channels.specs.DeskNumbers.{sample_number, Put}
 use Rattle.ps_allpass_channels.proofs.DeskPuts.{channels_none, channels_more}
 use Rattle.ps_allpass_channels.proofs.DeskLaid.{sample_put}
 use Rattle.ps_allpass_channels.proofs.desks.enter_low.Invariants.{sample_of}
@@ -19,12 +15,9 @@ loop-k-init c =
     record {
       from = omega arith;
       within = c.requires.1;
-      whole = c.requires.5;
+      whole = omega arith;
       laid = channels_none a.unsplit 27 (λ j. j < 29) (sample_of a.input.now a.n a.split a.unsplit) a.desks.now;
     }
-
-pub bounds-desks-at-in-loop-k : goal.bounds-desks-at-in-loop-k
-bounds-desks-at-in-loop-k c = simp length-set (omega arith)
 
 pub loop-k-preserved : goal.loop-k-preserved
 loop-k-preserved c =

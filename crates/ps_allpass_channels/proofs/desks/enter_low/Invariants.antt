@@ -1,14 +1,10 @@
-use mathlib.Core.Path.{◌≡◌, refl}
+use mathlib.Core.Path.{◌≡◌}
 use mathlib.Core.List.{List}
 use Prim.Native.Nat.{ℕ, ◌+◌, ◌-◌, ◌≤◌, ◌<◌}
-use native.Mathlib.Omega.{arith}
-use borrow.Author.Rules.{rules}
 use lib.Ieee.{Float}
-use lib.ListN.{length, length-set}
+use lib.ListN.{length}
 use Rattle.planar.specs.Frame.{qmf_at}
 use Rattle.ps_allpass_channels.specs.DeskNumbers.{sample_number, Put}
-use Rattle.ps_allpass_channels.proofs.DeskPuts.{channels_none, channels_more}
-use Rattle.ps_allpass_channels.proofs.DeskLaid.{sample_put}
 use Rattle.ps_allpass_channels.proofs.desks.enter_low.Given as goal
 
 abbrev pub sample_of : List Float → ℕ → ℕ → ℕ → ℕ → ℕ → Float

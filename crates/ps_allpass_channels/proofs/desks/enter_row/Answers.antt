@@ -1,9 +1,8 @@
 -- `ps_allpass_channels::desks::enter_row` meets its contract: the bands up to the first whole desk, then five whole desks. Assumes nothing.
-use mathlib.Core.Path.{◌≡◌, ap, ◌∙◌}
+use mathlib.Core.Path.{◌≡◌, ap}
 use mathlib.Core.List.{List}
 use Prim.Native.Nat.{ℕ, ◌+◌, ◌-◌, ◌*◌, ◌≤◌, ◌<◌}
 use native.Mathlib.Omega.{arith}
-use borrow.Author.Rules.{rules}
 use lib.Ieee.{Float}
 use Rattle.layout.proofs.Bounds.{bounds}
 use Rattle.layout.specs.declared.Layout.{Layout}
@@ -47,12 +46,11 @@ enter_low-requires c =
       omega (arith, is-groups, b.groups),
       c.requires.0,
       c.requires.1,
-      c.requires.2,
     )
 
 pub enter_high-requires : goal.enter_high-requires
 enter_high-requires c =
-    (omega (arith, c.groups-first.ensures, (bounds c.args.layout).groups), c.requires.0, c.requires.1, c.enter_low.ensures.long ∙ c.requires.2)
+    (omega (arith, c.groups-first.ensures, (bounds c.args.layout).groups), c.requires.0, c.requires.1)
 
 pub returns : goal.returns
 returns c =

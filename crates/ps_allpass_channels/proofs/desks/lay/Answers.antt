@@ -1,20 +1,11 @@
 -- `ps_allpass_channels::desks::lay` meets its contract: each turn lays one chain more. Assumes nothing.
 use mathlib.Core.Path.{◌≡◌, ◌∙◌}
 use mathlib.Core.Logic.{◌⊎◌, inl, inr}
-use mathlib.Core.List.{List}
-use Prim.Native.Nat.{ℕ, ◌+◌, ◌-◌, ◌≤◌, ◌<◌}
+use Prim.Native.Nat.{ℕ, ◌+◌, ◌<◌}
 use native.Mathlib.Nat.{eq-or-lt_of_le}
 use native.Mathlib.Omega.{arith}
-use borrow.Author.Rules.{rules}
-use lib.IntN.{ℤ}
-use lib.Ieee.{Float}
-use lib.ListN.{length}
 use Rattle.layout.proofs.Bounds.{bounds}
-use Rattle.layout.specs.declared.Layout.{Layout}
-use Rattle.ps_allpass_groups.specs.Desk.{chain_on}
 use Rattle.standard.specs.declared.Chain.{Chain}
-use Rattle.standard.specs.Channel.{chain_from}
-use Rattle.ps_allpass_channels.specs.Desks.{desk_of}
 use Rattle.ps_allpass_channels.proofs.desks.lay.Goals as goal
 
 -- one chain more, those before it as they were
@@ -35,7 +26,7 @@ loop-k-init c =
     record {
       within = omega arith;
       few = omega (arith, c.groups-channels.ensures, (bounds a.layout).groups);
-      whole = c.requires;
+      whole = omega arith;
       laid = λ i u. absurd (omega arith);
     }
 

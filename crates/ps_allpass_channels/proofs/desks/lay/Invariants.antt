@@ -1,17 +1,11 @@
-use mathlib.Core.Path.{◌≡◌, ◌∙◌}
-use mathlib.Core.Logic.{◌⊎◌, inl, inr}
+use mathlib.Core.Path.{◌≡◌}
 use mathlib.Core.List.{List}
-use Prim.Native.Nat.{ℕ, ◌+◌, ◌-◌, ◌≤◌, ◌<◌}
-use native.Mathlib.Nat.{eq-or-lt_of_le}
-use native.Mathlib.Omega.{arith}
-use borrow.Author.Rules.{rules}
+use Prim.Native.Nat.{ℕ, ◌-◌, ◌≤◌, ◌<◌}
 use lib.IntN.{ℤ}
 use lib.Ieee.{Float}
 use lib.ListN.{length}
-use Rattle.layout.proofs.Bounds.{bounds}
 use Rattle.layout.specs.declared.Layout.{Layout}
 use Rattle.ps_allpass_groups.specs.Desk.{chain_on}
-use Rattle.standard.specs.declared.Chain.{Chain}
 use Rattle.standard.specs.Channel.{chain_from}
 use Rattle.ps_allpass_channels.specs.Desks.{desk_of}
 use Rattle.ps_allpass_channels.proofs.desks.lay.Given as goal

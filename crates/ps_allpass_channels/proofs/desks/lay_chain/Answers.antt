@@ -3,9 +3,8 @@ use mathlib.Core.Path.{◌≡◌, refl}
 use mathlib.Core.List.{List, [], ◌∷◌}
 use Prim.Native.Nat.{ℕ, ◌+◌, ◌*◌, ◌/◌, ◌%◌, ◌<◌}
 use native.Mathlib.Omega.{arith}
-use borrow.Author.Rules.{rules}
 use lib.Ieee.{Float, nan}
-use lib.ListN.{length, get_or, set, length-set}
+use lib.ListN.{length, get_or, set}
 use Rattle.ps_allpass_groups.specs.Desk.{chain_on}
 use Rattle.standard.specs.declared.Chain.{Chain}
 use Rattle.ps_allpass_channels.specs.Desks.{desk_of}
@@ -38,45 +37,12 @@ module _ (chain : Chain) (k : ℕ) (within : k < 52) (old : List Float) (whole :
     λ i l. same_chain old desks i (λ j u. all.below i j l (omega arith)),
   )
 
-pub bounds-desks-at-2 : goal.bounds-desks-at-2
-bounds-desks-at-2 c = simp length-set (omega arith)
-
-pub bounds-desks-at-3 : goal.bounds-desks-at-3
-bounds-desks-at-3 c = simp length-set (omega arith)
-
-pub bounds-desks-at-4 : goal.bounds-desks-at-4
-bounds-desks-at-4 c = simp length-set (omega arith)
-
-pub bounds-desks-at-5 : goal.bounds-desks-at-5
-bounds-desks-at-5 c = simp length-set (omega arith)
-
-pub bounds-desks-at-6 : goal.bounds-desks-at-6
-bounds-desks-at-6 c = simp length-set (omega arith)
-
-pub bounds-desks-at-7 : goal.bounds-desks-at-7
-bounds-desks-at-7 c = simp length-set (omega arith)
-
-pub bounds-desks-at-8 : goal.bounds-desks-at-8
-bounds-desks-at-8 c = simp length-set (omega arith)
-
-pub bounds-desks-at-9 : goal.bounds-desks-at-9
-bounds-desks-at-9 c = simp length-set (omega arith)
-
-pub bounds-desks-at-10 : goal.bounds-desks-at-10
-bounds-desks-at-10 c = simp length-set (omega arith)
-
-pub bounds-desks-at-11 : goal.bounds-desks-at-11
-bounds-desks-at-11 c = simp length-set (omega arith)
-
-pub shape_of-desks : goal.shape_of-desks
-shape_of-desks c = simp length-set refl
-
 pub returns : goal.returns
 returns c =
     let a = c.args in
     let at = 136 * (a.k / 4) + a.k % 4 in
-    let next = more a.chain a.k c.requires.0 a.desks.now c.requires.1 in
-    let p = told a.chain a.k c.requires.0 a.desks.now c.requires.1 _
+    let next = more a.chain a.k c.requires a.desks.now (omega arith) in
+    let p = told a.chain a.k c.requires a.desks.now (omega arith) _
     (next _ 10 (at + 40) (omega arith) (omega arith)
     (next _ 9 (at + 36) (omega arith) (omega arith)
     (next _ 8 (at + 32) (omega arith) (omega arith)

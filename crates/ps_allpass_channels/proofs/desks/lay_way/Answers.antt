@@ -2,9 +2,8 @@
 use mathlib.Core.Path.{◌≡◌, refl}
 use mathlib.Core.List.{List}
 use mathlib.Core.Logic.{◌≢◌}
-use Prim.Native.Nat.{ℕ, ◌+◌, ◌-◌, ◌*◌, ◌/◌, ◌%◌, ◌≤◌, ◌<◌}
+use Prim.Native.Nat.{ℕ, ◌+◌, ◌-◌, ◌*◌, ◌/◌, ◌%◌, ◌<◌}
 use native.Mathlib.Omega.{arith}
-use borrow.Author.Rules.{rules}
 use borrow.Author.Tests.{lt-ltb, le-ltb}
 use lib.Ieee.{Float, nan, binary64, sub}
 use lib.ListN.{length, get_or, set, length-set}
@@ -43,12 +42,9 @@ loop-c-init c =
     let a = c.args in
     record {
       within = omega arith;
-      whole = c.requires.3;
+      whole = omega arith;
       laid = put_all (put_none a.k 11 (λ _. way_number a.rows.now a.from a.to) a.desks.now) (After 0) (λ j lo some. absurd (omega arith));
     }
-
-pub bounds-desks-at-in-loop-c : goal.bounds-desks-at-in-loop-c
-bounds-desks-at-in-loop-c c = simp length-set (omega arith)
 
 pub loop-c-preserved : goal.loop-c-preserved
 loop-c-preserved c =
@@ -58,7 +54,7 @@ loop-c-preserved c =
     record {
       within = omega arith;
       whole = simp length-set l.invariant.whole;
-      laid = turned a.rows.now a.from a.to l.c few a.k a.desks.now l.desks c.requires.2 c.requires.3 l.invariant.laid;
+      laid = turned a.rows.now a.from a.to l.c few a.k a.desks.now l.desks c.requires.2 (omega arith) l.invariant.laid;
     }
 
 pub returns : goal.returns

@@ -1,14 +1,9 @@
-use mathlib.Core.Path.{◌≡◌, refl}
+use mathlib.Core.Path.{◌≡◌}
 use mathlib.Core.List.{List}
-use mathlib.Core.Logic.{◌≢◌}
-use Prim.Native.Nat.{ℕ, ◌+◌, ◌-◌, ◌*◌, ◌/◌, ◌%◌, ◌≤◌, ◌<◌}
-use native.Mathlib.Omega.{arith}
-use borrow.Author.Rules.{rules}
-use borrow.Author.Tests.{lt-ltb, le-ltb}
-use lib.Ieee.{Float, nan, binary64, sub}
-use lib.ListN.{length, get_or, set, length-set}
+use Prim.Native.Nat.{ℕ, ◌+◌, ◌-◌, ◌%◌, ◌≤◌, ◌<◌}
+use lib.Ieee.{Float}
+use lib.ListN.{length}
 use Rattle.ps_allpass_channels.specs.DeskNumbers.{Put}
-use Rattle.ps_allpass_channels.proofs.DeskPuts.{put_none, put_more, put_all}
 use Rattle.ps_allpass_channels.proofs.DeskReads.{way_number}
 use Rattle.ps_allpass_channels.proofs.desks.lay_way.Given as goal
 

@@ -1,13 +1,9 @@
 -- `ps_allpass_channels::desks::split_desks` meets its contract: each turn enters the samples of one desk more. Assumes nothing.
 use mathlib.Core.Path.{◌≡◌, refl, ◌∙◌}
-use mathlib.Core.List.{List}
-use Prim.Native.Nat.{ℕ, ◌+◌, ◌-◌, ◌*◌, ◌≤◌, ◌<◌}
+use Prim.Native.Nat.{◌+◌, ◌*◌, ◌<◌}
 use native.Mathlib.Omega.{arith}
-use borrow.Author.Rules.{rules}
-use lib.Ieee.{Float}
-use lib.ListN.{length}
 use Rattle.planar.specs.Frame.{sample_at}
-use Rattle.ps_allpass_channels.specs.DeskNumbers.{sample_number, Put}
+use Rattle.ps_allpass_channels.specs.DeskNumbers.{sample_number}
 use Rattle.ps_allpass_channels.proofs.DeskPuts.{channels_none}
 use Rattle.ps_allpass_channels.proofs.DeskRuns.{channels_on}
 use Rattle.ps_allpass_channels.proofs.desks.split_desks.Goals as goal
@@ -17,13 +13,13 @@ loop-g-init c =
     let a = c.args in
     record {
       within = omega arith;
-      whole = c.requires.3;
+      whole = omega arith;
       laid = channels_none 0 27 (λ j. j < 29) (λ k. sample_number (sample_at a.samples.now a.n k)) a.desks.now;
     }
 
 pub split_four-requires : goal.split_four-requires
 split_four-requires c =
-    (c.requires.1, omega (arith, c.requires.0, c.loop-g-test.true), omega (arith, c.requires.2, c.loop-g-test.true), c.loop-g.invariant.whole)
+    (c.requires.1, omega (arith, c.requires.0, c.loop-g-test.true), omega (arith, c.requires.2, c.loop-g-test.true))
 
 pub loop-g-preserved : goal.loop-g-preserved
 loop-g-preserved c =

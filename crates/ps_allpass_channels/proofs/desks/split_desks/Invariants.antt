@@ -1,14 +1,10 @@
-use mathlib.Core.Path.{◌≡◌, refl, ◌∙◌}
+use mathlib.Core.Path.{◌≡◌}
 use mathlib.Core.List.{List}
-use Prim.Native.Nat.{ℕ, ◌+◌, ◌-◌, ◌*◌, ◌≤◌, ◌<◌}
-use native.Mathlib.Omega.{arith}
-use borrow.Author.Rules.{rules}
+use Prim.Native.Nat.{ℕ, ◌-◌, ◌*◌, ◌≤◌, ◌<◌}
 use lib.Ieee.{Float}
 use lib.ListN.{length}
 use Rattle.planar.specs.Frame.{sample_at}
 use Rattle.ps_allpass_channels.specs.DeskNumbers.{sample_number, Put}
-use Rattle.ps_allpass_channels.proofs.DeskPuts.{channels_none}
-use Rattle.ps_allpass_channels.proofs.DeskRuns.{channels_on}
 use Rattle.ps_allpass_channels.proofs.desks.split_desks.Given as goal
 
 pub record Inv (end : ℕ) (samples : List Float) (n : ℕ) (desks₀ desks : List Float) (g : ℕ) : Type 0 where

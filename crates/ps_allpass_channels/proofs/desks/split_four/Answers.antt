@@ -4,11 +4,10 @@ use mathlib.Core.Bool.{Bool, true, false, cond}
 use mathlib.Core.List.{List}
 use Prim.Native.Nat.{ℕ, ◌+◌, ◌-◌, ◌*◌, ◌/◌, ◌%◌, ◌≤◌, ◌<◌}
 use native.Mathlib.Omega.{arith}
-use borrow.Author.Rules.{rules}
 use borrow.Author.Tests.{eqb-true, eqb-false}
 use lib.Dec.{eqb}
 use lib.Ieee.{Float, nan}
-use lib.ListN.{length, get_or, set, length-set}
+use lib.ListN.{length, get_or, set}
 use Rattle.complex.specs.declared.Complex.{Complex}
 use Rattle.planar.specs.Frame.{sample_at}
 use Rattle.ps_allpass_channels.specs.DeskNumbers.{sample_number, Put}
@@ -61,31 +60,7 @@ module _ (samples : List Float) (n g : ℕ) where
       (run_more 0 at (get_or samples (256 * g + n) nan) (omega arith) (omega (arith, whole)) (ap (λ (p : ℕ). get_or samples p nan) (omega arith))
       (run_none at lane_number desks))))))))
 
-pub bounds-desks-at-2 : goal.bounds-desks-at-2
-bounds-desks-at-2 c = simp length-set (omega arith)
-
-pub bounds-desks-at-3 : goal.bounds-desks-at-3
-bounds-desks-at-3 c = simp length-set (omega arith)
-
-pub bounds-desks-at-4 : goal.bounds-desks-at-4
-bounds-desks-at-4 c = simp length-set (omega arith)
-
-pub bounds-desks-at-5 : goal.bounds-desks-at-5
-bounds-desks-at-5 c = simp length-set (omega arith)
-
-pub bounds-desks-at-6 : goal.bounds-desks-at-6
-bounds-desks-at-6 c = simp length-set (omega arith)
-
-pub bounds-desks-at-7 : goal.bounds-desks-at-7
-bounds-desks-at-7 c = simp length-set (omega arith)
-
-pub bounds-desks-at-8 : goal.bounds-desks-at-8
-bounds-desks-at-8 c = simp length-set (omega arith)
-
-pub shape_of-desks : goal.shape_of-desks
-shape_of-desks c = simp length-set refl
-
 pub returns : goal.returns
 returns c =
     let a = c.args in
-    laid a.samples.now a.n a.g c.requires.0 (written a.samples.now a.n a.g a.desks.now c.requires.1 c.requires.3)
+    laid a.samples.now a.n a.g c.requires.0 (written a.samples.now a.n a.g a.desks.now c.requires.1 (omega arith))

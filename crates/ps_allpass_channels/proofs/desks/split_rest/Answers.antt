@@ -1,15 +1,12 @@
 -- `ps_allpass_channels::desks::split_rest` meets its contract: each turn enters one channel's sample more. Assumes nothing.
 use mathlib.Core.Path.{◌≡◌, ap}
-use mathlib.Core.List.{List}
-use Prim.Native.Nat.{ℕ, ◌+◌, ◌-◌, ◌*◌, ◌≤◌, ◌<◌}
+use Prim.Native.Nat.{◌+◌, ◌*◌, ◌<◌}
 use native.Mathlib.Omega.{arith}
-use borrow.Author.Rules.{rules}
-use lib.Ieee.{Float}
-use lib.ListN.{length, length-set}
+use lib.ListN.{length-set}
 use Rattle.complex.specs.declared.Complex.{Complex}
 use Rattle.planar.specs.Cells.{cell}
 use Rattle.planar.specs.Frame.{sample_at}
-use Rattle.ps_allpass_channels.specs.DeskNumbers.{sample_number, Put}
+use Rattle.ps_allpass_channels.specs.DeskNumbers.{sample_number}
 use Rattle.ps_allpass_channels.proofs.DeskPuts.{channels_none, channels_more}
 use Rattle.ps_allpass_channels.proofs.DeskLaid.{sample_put, in_run}
 use Rattle.ps_allpass_channels.proofs.desks.split_rest.Goals as goal
@@ -20,12 +17,9 @@ loop-k-init c =
     record {
       from = omega arith;
       within = c.requires.0;
-      whole = c.requires.4;
+      whole = omega arith;
       laid = channels_none a.first 27 (λ j. j < 29) (λ k. sample_number (sample_at a.samples.now a.n k)) a.desks.now;
     }
-
-pub bounds-desks-at-in-loop-k : goal.bounds-desks-at-in-loop-k
-bounds-desks-at-in-loop-k c = simp length-set (omega arith)
 
 pub loop-k-preserved : goal.loop-k-preserved
 loop-k-preserved c =

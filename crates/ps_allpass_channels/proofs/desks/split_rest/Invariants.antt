@@ -1,16 +1,10 @@
-use mathlib.Core.Path.{◌≡◌, ap}
+use mathlib.Core.Path.{◌≡◌}
 use mathlib.Core.List.{List}
-use Prim.Native.Nat.{ℕ, ◌+◌, ◌-◌, ◌*◌, ◌≤◌, ◌<◌}
-use native.Mathlib.Omega.{arith}
-use borrow.Author.Rules.{rules}
+use Prim.Native.Nat.{ℕ, ◌-◌, ◌≤◌, ◌<◌}
 use lib.Ieee.{Float}
-use lib.ListN.{length, length-set}
-use Rattle.complex.specs.declared.Complex.{Complex}
-use Rattle.planar.specs.Cells.{cell}
+use lib.ListN.{length}
 use Rattle.planar.specs.Frame.{sample_at}
 use Rattle.ps_allpass_channels.specs.DeskNumbers.{sample_number, Put}
-use Rattle.ps_allpass_channels.proofs.DeskPuts.{channels_none, channels_more}
-use Rattle.ps_allpass_channels.proofs.DeskLaid.{sample_put, in_run}
 use Rattle.ps_allpass_channels.proofs.desks.split_rest.Given as goal
 
 pub record Inv (first unsplit : ℕ) (samples : List Float) (n : ℕ) (desks₀ desks : List Float) (k : ℕ) : Type 0 where

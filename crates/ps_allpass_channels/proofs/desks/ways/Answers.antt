@@ -1,16 +1,12 @@
 -- `ps_allpass_channels::desks::ways` meets its contract: each turn lays the coefficients of one channel more. Assumes nothing.
-use mathlib.Core.Path.{◌≡◌, refl, ◌∙◌}
-use mathlib.Core.List.{List}
-use Prim.Native.Nat.{ℕ, ◌+◌, ◌-◌, ◌*◌, ◌≤◌, ◌<◌}
+use mathlib.Core.Path.{◌≡◌, ◌∙◌}
+use Prim.Native.Nat.{◌+◌, ◌*◌, ◌≤◌, ◌<◌}
 use native.Mathlib.Omega.{arith}
-use borrow.Author.Rules.{rules}
-use lib.Ieee.{Float}
 use lib.ListN.{length, get_or}
 use Rattle.layout.proofs.Bounds.{bounds}
 use Rattle.limits.specs.Limits as limits
-use Rattle.ps_allpass_channels.specs.DeskNumbers.{Put}
 use Rattle.ps_allpass_channels.proofs.DeskPuts.{channels_none, channels_more}
-use Rattle.ps_allpass_channels.proofs.DeskReads.{way_number, same_chain}
+use Rattle.ps_allpass_channels.proofs.DeskReads.{same_chain}
 use Rattle.ps_allpass_channels.proofs.DeskLaid.{band_fits, wayed}
 use Rattle.ps_allpass_channels.proofs.desks.ways.Invariants.{way_in}
 use Rattle.ps_allpass_channels.proofs.desks.ways.Goals as goal
@@ -24,15 +20,10 @@ loop-k-init c =
     record {
       within = omega arith;
       few = omega (arith, c.groups-channels.ensures, (bounds a.layout).groups);
-      whole = c.requires.map_value.1.1;
-      room = λ k. omega (arith, band_fits a.layout a.map.now k c.requires.map_value.0, c.requires.map_value.1.0);
+      whole = omega arith;
+      room = λ k. omega (arith, band_fits a.layout a.map.now k c.requires.map_value.0, c.requires.map_value.1);
       laid = channels_none 0 11 (λ j. j < 27) (way_in a.map.now a.rows.now a.e a.next) a.desks.now;
     }
-
-pub overflow_cast-at : goal.overflow_cast-at
-overflow_cast-at c =
-    let course : limits.course * get_or c.args.map.now c.loop-k.k 0 + limits.course ≤ length c.args.rows.now = c.loop-k.invariant.room c.loop-k.k in
-    omega (arith, course)
 
 pub overflow_mul-at : goal.overflow_mul-at
 overflow_mul-at c =
@@ -62,7 +53,7 @@ loop-k-preserved c =
       few = v.few;
       whole = c.lay_way.ensures.long ∙ v.whole;
       room = v.room;
-      laid = channels_more v.laid c.lay_way.ensures (omega arith) (λ j. refl);
+      laid = channels_more v.laid c.lay_way.ensures (omega arith) (λ j. rw c.from-at.ensures);
     }
 
 pub returns : goal.returns

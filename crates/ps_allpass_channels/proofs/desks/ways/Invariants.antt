@@ -1,16 +1,11 @@
-use mathlib.Core.Path.{◌≡◌, refl, ◌∙◌}
+use mathlib.Core.Path.{◌≡◌}
 use mathlib.Core.List.{List}
 use Prim.Native.Nat.{ℕ, ◌+◌, ◌-◌, ◌*◌, ◌≤◌, ◌<◌}
-use native.Mathlib.Omega.{arith}
-use borrow.Author.Rules.{rules}
 use lib.Ieee.{Float}
 use lib.ListN.{length, get_or}
-use Rattle.layout.proofs.Bounds.{bounds}
 use Rattle.limits.specs.Limits as limits
 use Rattle.ps_allpass_channels.specs.DeskNumbers.{Put}
-use Rattle.ps_allpass_channels.proofs.DeskPuts.{channels_none, channels_more}
-use Rattle.ps_allpass_channels.proofs.DeskReads.{way_number, same_chain}
-use Rattle.ps_allpass_channels.proofs.DeskLaid.{band_fits, wayed}
+use Rattle.ps_allpass_channels.proofs.DeskReads.{way_number}
 use Rattle.ps_allpass_channels.proofs.desks.ways.Given as goal
 
 abbrev pub way_in : List ℕ → List Float → ℕ → ℕ → ℕ → ℕ → Float

@@ -1,11 +1,10 @@
 -- `ps_allpass_channels::rows::add_channels` meets its contract: after each turn the channels up to k are added. Assumes nothing.
 use mathlib.Core.Path.{◌≡◌, ◌∙◌}
-use Prim.Native.Nat.{ℕ, ◌+◌, ◌-◌, ◌≤◌}
+use Prim.Native.Nat.{◌+◌}
 use borrow.Author.Rules.{rules}
 use native.Mathlib.Omega.{arith}
-use Rattle.complex.specs.declared.Complex.{Complex}
 use Rattle.ps_allpass_channels.specs.Desks.{standing}
-use Rattle.ps_allpass_channels.proofs.Sums.{CarriedOn, one_more}
+use Rattle.ps_allpass_channels.proofs.Sums.{one_more}
 use Rattle.ps_allpass_channels.proofs.rows.add_channels.Goals as goal
 
 pub loop-k-init : goal.loop-k-init

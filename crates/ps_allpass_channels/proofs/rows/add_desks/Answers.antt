@@ -1,11 +1,9 @@
 -- `ps_allpass_channels::rows::add_desks` meets its contract: after each turn the channels of the desks up to j are added. Assumes nothing.
 use mathlib.Core.Path.{◌≡◌, ◌∙◌}
-use Prim.Native.Nat.{ℕ, ◌-◌, ◌*◌, ◌≤◌}
+use Prim.Native.Nat.{◌*◌}
 use borrow.Author.Rules.{rules}
 use native.Mathlib.Omega.{arith}
-use Rattle.complex.specs.declared.Complex.{Complex}
-use Rattle.ps_allpass_channels.specs.Desks.{standing}
-use Rattle.ps_allpass_channels.proofs.Sums.{CarriedOn, desk_more}
+use Rattle.ps_allpass_channels.proofs.Sums.{desk_more}
 use Rattle.ps_allpass_channels.proofs.rows.add_desks.Goals as goal
 
 pub loop-j-init : goal.loop-j-init
@@ -13,7 +11,7 @@ loop-j-init c = record { begun = omega arith; within = search rules; so_far = λ
 
 pub add_four-sum-requires : goal.add_four-sum-requires
 add_four-sum-requires c =
-    (omega (arith, c.loop-j-test.true, c.requires), c.requires.1.1.1)
+    omega (arith, c.loop-j-test.true, c.requires)
 
 pub loop-j-preserved : goal.loop-j-preserved
 loop-j-preserved c =

@@ -1,10 +1,7 @@
-use mathlib.Core.Path.{◌≡◌, ◌∙◌}
 use Prim.Native.Nat.{ℕ, ◌-◌, ◌*◌, ◌≤◌}
-use borrow.Author.Rules.{rules}
-use native.Mathlib.Omega.{arith}
 use Rattle.complex.specs.declared.Complex.{Complex}
 use Rattle.ps_allpass_channels.specs.Desks.{standing}
-use Rattle.ps_allpass_channels.proofs.Sums.{CarriedOn, desk_more}
+use Rattle.ps_allpass_channels.proofs.Sums.{CarriedOn}
 use Rattle.ps_allpass_channels.proofs.rows.add_desks.Given as goal
 
 pub record Inv (y : ℕ → Complex) (first last : ℕ) (start sum : Complex) (j : ℕ) : Type 0 where

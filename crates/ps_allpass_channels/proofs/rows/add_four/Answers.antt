@@ -1,6 +1,5 @@
 -- `ps_allpass_channels::rows::add_four` meets its contract: the four lanes are added one after the other. Assumes nothing.
 use mathlib.Core.Path.{◌∙◌, ap, ap₂}
-use borrow.Author.Rules.{rules}
 use Rattle.complex.specs.Operations.{sum}
 use Rattle.ps_allpass_channels.proofs.rows.add_four.Goals as goal
 

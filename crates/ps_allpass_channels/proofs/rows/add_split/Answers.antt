@@ -1,11 +1,8 @@
 -- `ps_allpass_channels::rows::add_split` meets its contract: after p turns the first p bands are their channels' sums. Assumes nothing.
 use mathlib.Core.Path.{◌≡◌, ◌∙◌}
-use mathlib.Core.List.{List}
-use Prim.Native.Nat.{ℕ, suc, ◌+◌, ◌-◌, ◌<◌, ◌≤◌}
-use borrow.Author.Rules.{rules}
+use Prim.Native.Nat.{ℕ, suc, ◌+◌, ◌-◌, ◌<◌}
 use native.Mathlib.Numerals.{add-one}
 use native.Mathlib.Omega.{arith}
-use lib.Ieee.{Float}
 use lib.ListN.{length-set}
 use Rattle.complex.specs.declared.Complex.{Complex}
 use Rattle.layout.specs.declared.Layout.{Layout}
@@ -13,7 +10,7 @@ use Rattle.layout.specs.Numbers.{split_of, first_channel_of}
 use Rattle.layout.proofs.Bounds.{bounds}
 use Rattle.standard.specs.Hybrid.{added_to, synthesised}
 use Rattle.standard.proofs.Spans.{spans}
-use Rattle.ps_allpass_channels.specs.Desks.{standing, Rowed}
+use Rattle.ps_allpass_channels.specs.Desks.{standing}
 use Rattle.ps_allpass_channels.proofs.Leaving.{rowed_none, rowed_more, band_split}
 use Rattle.ps_allpass_channels.proofs.rows.add_split.Goals as goal
 
@@ -34,7 +31,7 @@ added-sum-requires c =
     let end : c.first_channel-in-loop-p.result ≡ first_channel_of c.args.layout (suc p) = rw add-one at c.first_channel-in-loop-p.ensures in
     let rising = (spans c.args.layout p).rises in
     let few = (spans c.args.layout (suc p)).few in
-    (omega (arith, from, end, rising), (omega (arith, end, few), (c.requires.0, c.requires.1.0)))
+    (omega (arith, from, end, rising), (omega (arith, end, few), c.requires.0))
 
 pub bounds-row-p-in-loop-p : goal.bounds-row-p-in-loop-p
 bounds-row-p-in-loop-p c = simp length-set (omega (arith, c.loop-p.invariant.rowed.long))
@@ -53,7 +50,7 @@ loop-p-preserved c =
       rowed =
           rowed_more (synthesised a.layout y) 0 p a.row.now c.loop-p.row c.added-sum.result c.loop-p.invariant.rowed
           (band a.layout y p from.result end.result c.added-sum.result more from.ensures end.ensures c.added-sum.ensures) (omega arith)
-          (omega (arith, more, c.requires.1.1, c.loop-p.invariant.few));
+          (omega (arith, more, c.requires.1, c.loop-p.invariant.few));
     }
 
 pub shape_of-row : goal.shape_of-row

@@ -1,7 +1,6 @@
 -- `ps_allpass_channels::rows::added` meets its contract: the sum goes on from 0, by desks and then by channels, or by channels alone. Assumes nothing.
 use mathlib.Core.Path.{◌≡◌, refl, ◌∙◌}
 use Prim.Native.Nat.{◌*◌, ◌/◌, ◌%◌, ◌≤◌}
-use borrow.Author.Rules.{rules}
 use native.Mathlib.Omega.{arith}
 use Rattle.standard.proofs.Literals.{zero_is}
 use Rattle.planar.proofs.Cells.{by_parts}

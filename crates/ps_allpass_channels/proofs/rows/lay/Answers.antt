@@ -1,6 +1,5 @@
 -- `ps_allpass_channels::rows::lay` meets its contract: the band's two numbers are stored. Assumes nothing.
 use mathlib.Core.Path.{refl}
-use borrow.Author.Rules.{rules}
 use native.Mathlib.Omega.{arith}
 use lib.ListN.{length-set}
 use Rattle.ps_allpass_channels.proofs.Leaving.{rowed_none, rowed_more}

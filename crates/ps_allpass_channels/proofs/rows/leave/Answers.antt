@@ -1,6 +1,5 @@
 -- `ps_allpass_channels::rows::leave` meets its contract: the slot's row of each side comes back with its bands written. Assumes nothing.
 use Prim.Native.Nat.{◌+◌, ◌-◌, ◌*◌}
-use borrow.Author.Rules.{rules}
 use native.Mathlib.Nat.{add-sub_cancel_left}
 use Rattle.ps_allpass_groups.specs.Desk.{left_on, right_on}
 use Rattle.ps_allpass_channels.specs.Desks.{desk_of, standing}

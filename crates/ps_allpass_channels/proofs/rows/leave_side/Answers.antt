@@ -1,7 +1,6 @@
 -- `ps_allpass_channels::rows::leave_side` meets its contract: the unsplit bands come behind the split ones. Assumes nothing.
 use mathlib.Core.Path.{◌≡◌, refl, ◌∙◌}
 use Prim.Native.Nat.{◌+◌, ◌-◌, ◌%◌}
-use borrow.Author.Rules.{rules}
 use native.Mathlib.Omega.{arith}
 use Rattle.layout.specs.declared.Layout.{Layout}
 use Rattle.layout.specs.declared.Layout.TheVariants.{Bands20, Bands34}
@@ -23,7 +22,7 @@ pass_unsplit-requires c =
     let split = c.split.ensures in
     let unsplit = c.unsplit_from.ensures in record {
       split_bound = (omega (arith, split, b.split), (omega (arith, split, unsplit, b.more), (omega (arith, split, unsplit, b.delayed, b.all_pass), rw (split, unsplit) (whole_desks c.args.layout))));
-      place_bound = (c.requires.0, (c.requires.1.0, c.add_split.ensures.long ∙ c.requires.1.1));
+      place_bound = (c.requires.0, c.add_split.ensures.long ∙ c.requires.1);
     }
 
 pub returns : goal.returns

@@ -5,7 +5,6 @@ use Prim.Native.Nat.{ℕ, ◌+◌, ◌-◌, ◌*◌, ◌/◌, ◌%◌, ◌<◌, 
 use borrow.Author.Rules.{rules}
 use native.Mathlib.Omega.{arith}
 use lib.Ieee.{Float}
-use Rattle.complex.specs.declared.Complex.{Complex}
 use Rattle.planar.specs.Cells.{cell}
 use Rattle.ps_allpass_channels.specs.Desks.{Rowed}
 use Rattle.ps_allpass_channels.proofs.Leaving.{rowed_none, rowed_then}
@@ -31,7 +30,7 @@ loop-j-init c = record { within = search rules; rowed = rowed_none _ 5 _ }
 pub pass_four-requires : goal.pass_four-requires
 pass_four-requires c =
     let more = c.loop-j-test.true in
-    record { at_bound = (omega (arith, more, c.requires.0), c.requires.1.0); q_bound = (omega (arith, more), c.loop-j.invariant.rowed.long ∙ c.requires.1.1) }
+    record { at_bound = omega (arith, more, c.requires.0); q_bound = (omega (arith, more), c.loop-j.invariant.rowed.long ∙ c.requires.1) }
 
 pub loop-j-preserved : goal.loop-j-preserved
 loop-j-preserved c =

@@ -1,12 +1,8 @@
 -- `ps_allpass_channels::rows::pass_low` meets its contract: after each turn the bands up to q are their channels. Assumes nothing.
 use mathlib.Core.Path.{◌≡◌, ◌∙◌}
-use mathlib.Core.List.{List}
-use Prim.Native.Nat.{ℕ, ◌+◌, ◌-◌, ◌<◌, ◌≤◌}
+use Prim.Native.Nat.{◌+◌, ◌<◌}
 use borrow.Author.Rules.{rules}
 use native.Mathlib.Omega.{arith}
-use lib.Ieee.{Float}
-use Rattle.complex.specs.declared.Complex.{Complex}
-use Rattle.ps_allpass_channels.specs.Desks.{standing, Rowed}
 use Rattle.ps_allpass_channels.proofs.Leaving.{rowed_none, rowed_next}
 use Rattle.ps_allpass_channels.proofs.rows.pass_low.Invariants.{passed}
 use Rattle.ps_allpass_channels.proofs.rows.pass_low.Goals as goal
@@ -16,7 +12,7 @@ loop-q-init c = record { begun = omega arith; within = search rules; rowed = row
 
 pub lay-requires : goal.lay-requires
 lay-requires c =
-    (omega (arith, c.loop-q-test.true), c.loop-q.invariant.rowed.long ∙ c.requires.place_bound.1.1)
+    (omega (arith, c.loop-q-test.true), c.loop-q.invariant.rowed.long ∙ c.requires.place_bound.1)
 
 pub loop-q-preserved : goal.loop-q-preserved
 loop-q-preserved c =

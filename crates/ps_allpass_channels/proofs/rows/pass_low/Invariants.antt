@@ -1,12 +1,8 @@
-use mathlib.Core.Path.{◌≡◌, ◌∙◌}
 use mathlib.Core.List.{List}
-use Prim.Native.Nat.{ℕ, ◌+◌, ◌-◌, ◌<◌, ◌≤◌}
-use borrow.Author.Rules.{rules}
-use native.Mathlib.Omega.{arith}
+use Prim.Native.Nat.{ℕ, ◌+◌, ◌-◌, ◌≤◌}
 use lib.Ieee.{Float}
 use Rattle.complex.specs.declared.Complex.{Complex}
 use Rattle.ps_allpass_channels.specs.Desks.{standing, Rowed}
-use Rattle.ps_allpass_channels.proofs.Leaving.{rowed_none, rowed_next}
 use Rattle.ps_allpass_channels.proofs.rows.pass_low.Given as goal
 
 -- the band of a channel

@@ -2,7 +2,6 @@
 use mathlib.Core.Path.{◌≡◌, ◌∙◌, ap}
 use mathlib.Core.List.{List}
 use Prim.Native.Nat.{ℕ, ◌+◌, ◌-◌, ◌*◌, ◌/◌, ◌%◌, ◌≤◌}
-use borrow.Author.Rules.{rules}
 use native.Mathlib.Omega.{arith}
 use lib.Ieee.{Float}
 use Rattle.complex.specs.declared.Complex.{Complex}
@@ -32,7 +31,7 @@ module _ (desks : List Float) (place split unsplit : ℕ) where
 
 pub pass_desks-requires : goal.pass_desks-requires
 pass_desks-requires c =
-    (omega arith, (c.requires.place_bound.1.0, c.pass_low.ensures.long ∙ c.requires.place_bound.1.1))
+    (omega arith, c.pass_low.ensures.long ∙ c.requires.place_bound.1)
 
 pub returns : goal.returns
 returns c =

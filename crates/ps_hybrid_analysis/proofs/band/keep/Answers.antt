@@ -1,28 +1,22 @@
--- `ps_hybrid_analysis::band::keep` meets its contract: after j turns the first j slots of the history are the band's. Assumes nothing.
-use mathlib.Core.Path.{refl}
-use Prim.Native.Nat.{◌+◌}
+-- `ps_hybrid_analysis::band::keep` meets its contract: the halves of the history are parts of the band's. Assumes nothing.
+use mathlib.Core.Path.{ap, ◌∙◌}
+use mathlib.Core.List.{List}
+use Prim.Native.Nat.{ℕ, ◌+◌}
 use native.Mathlib.Omega.{arith}
-use lib.ListN.{length-set}
+use lib.Ieee.{Float, nan}
+use lib.ListN.{length, get_or, length-take, length-drop}
+use Rattle.lists.proofs.Parts.{part_at}
 use Rattle.planar.specs.Cells.{cell}
-use Rattle.ps_hybrid_analysis.proofs.Runs.{filled_none, filled_more, filled_all}
+use Rattle.ps_hybrid_analysis.proofs.Pasted.{pasted_all}
 use Rattle.ps_hybrid_analysis.proofs.band.keep.Goals as goal
-
-pub loop-j-init : goal.loop-j-init
-loop-j-init c = record { within = omega arith; filled = filled_none _ _ _ }
-
-pub bounds-history-j-in-loop-j : goal.bounds-history-j-in-loop-j
-bounds-history-j-in-loop-j c = simp length-set (omega (arith, c.loop-j.invariant.filled.long))
-
-pub loop-j-preserved : goal.loop-j-preserved
-loop-j-preserved c =
-    record {
-      within = omega arith;
-      filled = filled_more c.loop-j.invariant.filled (cell 44 c.args.band.now (c.args.slots + c.loop-j.j)) refl (omega arith) (omega arith);
-    }
-
-pub shape_of-history : goal.shape_of-history
-shape_of-history c = c.loop-j.invariant.filled.long
 
 pub returns : goal.returns
 returns c =
-    filled_all c.loop-j.invariant.filled (omega arith) c.requires.1
+    let band = c.args.band.now in
+    let slots = c.args.slots in
+    let re = c.copy_from_slice.ensures.after in
+    let im = c.copy_from_slice-2.ensures.after in
+    pasted_all 6 (λ j. cell 44 band (slots + j)) c.args.history.now c.copy_from_slice.new.self c.copy_from_slice-2.new.self (omega (arith, c.requires))
+    (ap length re ∙ simp (length-take, length-drop) (omega arith)) (ap length im ∙ simp (length-take, length-drop) (omega arith))
+    (λ i u. ap (λ (xs : List Float). get_or xs i nan) re ∙ part_at slots _ band i nan (omega arith))
+    (λ i u. ap (λ (xs : List Float). get_or xs i nan) im ∙ part_at (slots + 44) _ band i nan (omega arith) ∙ ap (λ (m : ℕ). get_or band m nan) (omega arith))

@@ -1,4 +1,4 @@
--- `ps_hybrid_analysis::filter::waves` meets its contract: each prototype has the roots of its case. Assumes nothing.
+-- `ps_hybrid_analysis::filter::lay_waves` meets its contract: each prototype has the roots of its case. Assumes nothing.
 use mathlib.Core.List.{List}
 use mathlib.Core.Path.{ap, ◌∙◌}
 use Prim.Native.Nat.{◌*◌}
@@ -8,7 +8,7 @@ use Rattle.decimals.specs.declared.Prototype.TheVariants.{EighthsOfBand0, Halves
 use Rattle.fixed.specs.Real.{pair_at}
 use Rattle.standard.specs.Hybrid.{modulation}
 use Rattle.ps_hybrid_analysis.specs.Stages.{turn_of}
-use Rattle.ps_hybrid_analysis.proofs.filter.waves.Goals as goal
+use Rattle.ps_hybrid_analysis.proofs.filter.lay_waves.Goals as goal
 
 pub returns-in-EighthsOfBand0 : goal.returns-in-EighthsOfBand0
 unfolding modulation
