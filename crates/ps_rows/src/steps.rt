@@ -1,5 +1,6 @@
 // One index from the one before it.
 ghost use Rattle.std.specs.Prelude.{◌≡◌};
+ghost use Rattle.integers.specs.Integers.{byte_z};
 ghost use Rattle.ps_rows.specs.Steps.{within, step};
 
 use super::Kind;
@@ -18,8 +19,15 @@ fn limited(kind: Kind, z: i32) -> i8
 }
 
 // A delta is a signed byte.
+#[tactic(auto, using(integers::proofs::Ranges::byte_is))]
+fn signed(delta: u8) -> i32
+    ensures { result ≡ byte_z delta }
+{
+    i32::from(delta.cast_signed())
+}
+
 pub fn accumulate(kind: Kind, previous: i8, delta: u8) -> i8
     ensures { result ≡ step kind previous delta }
 {
-    limited(kind, i32::from(previous) + i32::from(delta.cast_signed()))
+    limited(kind, i32::from(previous) + signed(delta))
 }
