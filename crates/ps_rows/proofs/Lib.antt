@@ -1,3 +1,4 @@
 pub mod Places
 pub mod Ranges
 pub mod Turns
+pub mod Inside

@@ -1,11 +1,9 @@
 -- Rows in their places: what a loop has filled from the front is the row and the zeros after it, and the row is read back from there. Assumes nothing.
-use mathlib.Core.Path.{◌≡◌, refl, sym, ap, ◌∙◌}
+use mathlib.Core.Path.{◌≡◌, refl}
 use mathlib.Core.List.{List, [], ◌∷◌, ◌++◌, map}
-use Prim.Native.Nat.{ℕ, zero, suc, ◌+◌, ◌-◌, ◌≤◌}
-use native.Mathlib.Omega.{arith}
+use Prim.Native.Nat.{ℕ, zero, suc, ◌≤◌}
 use lib.IntN.{ℤ, pos}
-use lib.ListN.{length, take, get_or, replicate, length-map, length-replicate, replicate-append-replicate}
-use lib.Seq.{take_at}
+use lib.ListN.{length, take, get_or, replicate, length-map}
 use Rattle.limits.specs.Limits as limits
 use Rattle.lists.proofs.Fills.{Filled, filled_all}
 use Rattle.lists.proofs.Padded.{padded_front, padded_take}
@@ -34,11 +32,3 @@ module _ {A : Type 0} where
   read_on [] (suc n) (suc i) z = read_on [] n i z
   read_on (x ∷ l) n zero z = refl
   read_on (x ∷ l) n (suc i) z = read_on l n i z
-
-  -- fewer of the same
-  pub fewer : (k n : ℕ) (z : A) → k ≤ n → take k (replicate n z) ≡ replicate k z
-  fewer k n z h =
-      let whole : n ≡ k + (n - k) = omega arith in
-      ap (λ (m : ℕ). take k (replicate m z)) whole
-      ∙ ap (take k) (sym (replicate-append-replicate k (n - k) z))
-      ∙ take_at (replicate k z) (replicate (n - k) z) k (length-replicate k z)

@@ -1,5 +1,6 @@
 -- One turn of each loop: what is left of a row, or of the rows, begins with what the turn writes. Assumes nothing.
 use mathlib.Core.Path.{◌≡◌, ap, ◌∙◌}
+use mathlib.Core.Bool.{Bool, true, false, cond}
 use mathlib.Core.List.{List, [], ◌∷◌, ◌++◌, map}
 use Prim.Native.Nat.{ℕ, suc, ◌+◌, ◌-◌, ◌<◌, ◌≤◌}
 use native.Mathlib.Numerals.{add-one}
@@ -43,6 +44,20 @@ module _ (kind : Kind) (deltas : List ℕ) (b : ℕ) where
   pub time_end : (old : List ℤ) → length deltas ≤ b → time_row kind old (drop b deltas) ≡ []
   unfolding time_row
   time_end old h = rw (drop_of_length-le deltas h)
+
+-- ---- a row that is begun: over time from the old row, over frequency from the index before
+abbrev pub begun : Bool → Kind → ℤ → List ℤ → List ℕ → List ℤ
+begun over_time kind previous old deltas = cond over_time (time_row kind old deltas) (frequency_row kind previous deltas)
+
+module _ (kind : Kind) (old : List ℤ) (deltas : List ℕ) (b : ℕ) where
+  pub row_turn : (over_time : Bool) (previous v : ℤ) → b < length deltas → b < length old → v ≡ step kind (cond over_time (get_or old b (pos 0)) previous) (get_or deltas b 0)
+      → begun over_time kind previous (drop b old) (drop b deltas) ≡ v ∷ begun over_time kind v (drop (b + 1) old) (drop (b + 1) deltas)
+  row_turn true previous v h k e = time_turn kind deltas b old v h k e
+  row_turn false previous v h k e = frequency_turn kind deltas b previous v h e
+
+  pub row_end : (over_time : Bool) (previous : ℤ) → length deltas ≤ b → begun over_time kind previous (drop b old) (drop b deltas) ≡ []
+  row_end true previous h = time_end kind deltas b (drop b old) h
+  row_end false previous h = frequency_end kind deltas b previous h
 
 -- ---- a turn from one envelope to the next: from the places that hold its row, at the place behind its deltas
 module _ (kind : Kind) (count : ℕ) (old : List ℤ) (bytes : List ℕ) (place limit e : ℕ) where

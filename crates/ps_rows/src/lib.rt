@@ -3,8 +3,8 @@
 
 mod steps;
 
-ghost use Rattle.std.specs.Prelude.{◌≡◌, [], ◌+◌, ◌≤◌, pos, take, drop, get_or};
-ghost use Rattle.ps_rows.specs.Rows.{frequency_row, time_row, deltas_of, row_of, padded_row, padded_rows, start_of, resolve_kind};
+ghost use Rattle.std.specs.Prelude.{◌≡◌, [], ◌≤◌, take, drop, get_or};
+ghost use Rattle.ps_rows.specs.Rows.{row_of, padded_row, padded_rows, start_of, resolve_kind};
 
 #[derive(Clone, Copy)]
 pub enum Kind {
@@ -42,7 +42,7 @@ pub fn no_row() -> Row
     ensures { result ≡ padded_row [] }
 {
     Row {
-        at: [0i8; 34],
+        at: [0; 34],
         used: 0,
     }
 }
@@ -50,9 +50,8 @@ pub fn no_row() -> Row
 pub fn no_rows() -> Rows
     ensures { result ≡ padded_rows [] }
 {
-    let none = no_row();
     Rows {
-        row: [none; limits::ENVELOPES],
+        row: [no_row(); limits::ENVELOPES],
         used: 0,
     }
 }
@@ -61,54 +60,25 @@ pub fn no_rows() -> Rows
 fn byte_at(bytes: &[u8], place: usize) -> u8
     ensures { result ≡ get_or bytes.now place 0 }
 {
-    if place < bytes.len() { bytes[place] } else { 0 }
+    bytes.get(place).copied().unwrap_or(0)
 }
 
-// A row over frequency, whose time byte stands at a place.
-fn frequency_row(kind: Kind, count: usize, bytes: &[u8], place: usize) -> Row
-    requires { (count ≤ 34) × (place ≤ 65536) }
-    ensures { result ≡ padded_row (frequency_row kind (pos 0) (deltas_of count (drop place bytes.now))) }
-{
-    let mut at = [0i8; 34];
-    let mut previous: i8 = 0;
-    let mut b = 0;
-    while b < count {
-        previous = steps::accumulate(kind, previous, byte_at(bytes, place + 1 + b));
-        at[b] = previous;
-        b += 1;
-    }
-    Row {
-        at: at,
-        used: count as u16,
-    }
-}
-
-// A row over time, whose time byte stands at a place.
-fn time_row(kind: Kind, count: usize, old: [i8; 34], bytes: &[u8], place: usize) -> Row
-    requires { (count ≤ 34) × (place ≤ 65536) }
-    ensures { result ≡ padded_row (time_row kind (take count old) (deltas_of count (drop place bytes.now))) }
-{
-    let mut at = [0i8; 34];
-    let mut b = 0;
-    while b < count {
-        at[b] = steps::accumulate(kind, old[b], byte_at(bytes, place + 1 + b));
-        b += 1;
-    }
-    Row {
-        at: at,
-        used: count as u16,
-    }
-}
-
-// One envelope's row, from its place in the bytes.
+// One envelope's row, whose time byte stands at a place: over time each index starts from the old one of its band, over frequency from the one before it.
 fn envelope_row(kind: Kind, count: usize, old: [i8; 34], bytes: &[u8], place: usize) -> Row
     requires { (count ≤ 34) × (place ≤ 65536) }
     ensures { result ≡ padded_row (row_of kind count (take count old) (drop place bytes.now)) }
 {
-    if byte_at(bytes, place) == 1 {
-        time_row(kind, count, old, bytes, place)
-    } else {
-        frequency_row(kind, count, bytes, place)
+    let over_time = byte_at(bytes, place) == 1;
+    let mut at = [0; 34];
+    let mut previous = 0;
+    for b in 0..count {
+        let from = if over_time { old[b] } else { previous };
+        previous = steps::accumulate(kind, from, byte_at(bytes, place + 1 + b));
+        at[b] = previous;
+    }
+    Row {
+        at,
+        used: count as u16,
     }
 }
 
@@ -117,8 +87,11 @@ fn start(kept: Row, count: usize) -> [i8; 34]
     requires { count ≤ 34 }
     ensures { take count result ≡ start_of kept count }
 {
-    let used = kept.used as usize;
-    if used == count { kept.at } else { [0i8; 34] }
+    if usize::from(kept.used) == count {
+        kept.at
+    } else {
+        [0; 34]
+    }
 }
 
 // The rows of a frame's envelopes, of at most 34 parameters. Bytes past the end are 0.
@@ -131,27 +104,22 @@ pub fn resolve_kind(
 ) -> ResolvedKind
     ensures { result ≡ resolve_kind kind kept envelopes count bytes.now }
 {
-    let parameters = limits::least(count, 34);
-    let limit = limits::least(envelopes, limits::ENVELOPES);
+    let parameters = count.min(34);
+    let limit = envelopes.min(limits::ENVELOPES);
     let none = no_row();
     let mut row = [none; limits::ENVELOPES];
     let mut old = start(kept, parameters);
     let mut last = kept;
-    let mut place = 0;
-    let mut e = 0;
-    while e < limit {
-        last = envelope_row(kind, parameters, old, bytes, place);
+    for e in 0..limit {
+        last = envelope_row(kind, parameters, old, bytes, e * (parameters + 1));
         old = last.at;
         row[e] = last;
-        place += parameters + 1;
-        e += 1;
     }
-    let rows = Rows {
-        row: row,
-        used: limit as u16,
-    };
     ResolvedKind {
-        rows: rows,
+        rows: Rows {
+            row,
+            used: limit as u16,
+        },
         kept: last,
     }
 }

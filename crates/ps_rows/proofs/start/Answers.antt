@@ -1,12 +1,13 @@
--- `ps_rows::start` meets its contract: each branch is the case of `start_of` that the test of the length picks. Assumes nothing.
-use borrow.Author.Tests.{eq-eqb, ne_eqb}
-use mathlib.Core.Path.{◌∙◌}
+-- `ps_rows::start` meets its contract: zeros where the kept row has another length. Assumes nothing.
+use borrow.Author.Tests.{ne_eqb}
+use mathlib.Core.Path.{◌≡◌, ◌∙◌}
+use mathlib.Core.Bool.{false}
+use lib.Dec.{eqb}
 use lib.IntN.{pos}
-use Rattle.ps_rows.proofs.Places.{fewer}
+use Rattle.lists.proofs.Padded.{take_replicate}
 use Rattle.ps_rows.proofs.start.Goals as goal
 
-pub returns-then-used-count : goal.returns-then-used-count
-returns-then-used-count c = simp (eq-eqb _ _ c.if-used-count.true)
-
-pub returns-else-used-count : goal.returns-else-used-count
-returns-else-used-count c = fewer c.args.count 34 (pos 0) c.requires ∙ simp (ne_eqb _ _ c.if-used-count.false)
+pub returns-else-from-count : goal.returns-else-from-count
+returns-else-from-count c =
+    let other : eqb c.args.kept.used c.args.count ≡ false = rw (← c.from.ensures) (ne_eqb _ _ c.if-from-count.false) in
+    take_replicate (pos 0) c.args.count 34 c.requires ∙ simp other
