@@ -10,13 +10,7 @@ ghost use Rattle.borders.specs.Borders.{slots_of, fixed_border, border_of, borde
 pub fn slots(asked: usize) -> usize
     ensures { result ≡ slots_of asked }
 {
-    if asked < 6 {
-        return 6;
-    }
-    if 32 < asked {
-        return 32;
-    }
-    asked
+    asked.clamp(6, 32)
 }
 
 fn fixed(slots: usize, envelopes: usize, e: usize) -> u8
@@ -24,12 +18,6 @@ fn fixed(slots: usize, envelopes: usize, e: usize) -> u8
     ensures { result ≡ fixed_border slots envelopes e }
 {
     (slots * (e + 1) / envelopes - 1) as u8
-}
-
-fn capped(position: u8, last: u8) -> u8
-    ensures { result ≡ min position last }
-{
-    if position < last { position } else { last }
 }
 
 fn border(
@@ -43,7 +31,7 @@ fn border(
     ensures { result ≡ border_of slots variable envelopes positions e }
 {
     if variable {
-        capped(positions[e], (slots - 1) as u8)
+        positions[e].min((slots - 1) as u8)
     } else {
         fixed(slots, envelopes, e)
     }
@@ -59,12 +47,10 @@ pub fn borders(
     ensures { result ≡ padded limits.envelopes 0 (borders_of (slots_of asked) variable (min envelopes limits.envelopes) positions) }
 {
     let within = slots(asked);
-    let count = limits::least(envelopes, limits::ENVELOPES);
-    let mut out = [0u8; limits::ENVELOPES];
-    let mut e = 0;
-    while e < count {
+    let count = envelopes.min(limits::ENVELOPES);
+    let mut out = [0; limits::ENVELOPES];
+    for e in 0..count {
         out[e] = border(within, variable, count, positions, e);
-        e += 1;
     }
     out
 }

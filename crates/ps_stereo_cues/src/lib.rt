@@ -15,27 +15,22 @@ use standard::Cues;
 fn envelope_row(kind: Rows, e: usize) -> Row
     ensures { result ≡ envelope_row kind e }
 {
-    if e < limits::ENVELOPES {
-        kind.row[e]
-    } else {
-        ps_rows::no_row()
-    }
+    kind.row.get(e).copied().unwrap_or(ps_rows::no_row())
 }
 
 // How many indices a row has.
 fn used(row: Row) -> usize
     ensures { result ≡ min row.used 34 }
 {
-    limits::least(row.used as usize, 34)
+    usize::from(row.used).min(34)
 }
 
+#[tactic(auto, unfolding(calls::specs::Cues::mapped_row))]
 fn mapped(kind: Rows, layout: Layout, e: usize) -> [i8; 34]
     ensures { result ≡ mapped_row layout kind e }
 {
     let row = envelope_row(kind, e);
-    let count = used(row);
-    let at = row.at;
-    ps_map::map_row(&at[..count], layout)
+    ps_map::map_row(&row.at[..used(row)], layout)
 }
 
 // A row of phases has 10, 20 or 34 places, by iid_mode.
@@ -43,26 +38,20 @@ fn mapped_phases(kind: Rows, config: Config, layout: Layout, e: usize) -> [i8; 3
     ensures { result ≡ mapped_phases layout config kind e }
 {
     let row = envelope_row(kind, e);
-    let count = used(row);
-    let at = row.at;
-    let iid = config.iid;
-    let wanted = iid.parameters();
-    let extended = ps_map::extended(&at[..count], wanted);
+    let wanted = config.iid.parameters();
+    let extended = ps_map::extended(&row.at[..used(row)], wanted);
     ps_map::map_row(&extended[..wanted], layout)
 }
 
 // The mapped indices of every band in envelope e; 0 where a kind is absent.
+#[tactic(auto, unfolding(crate::specs::Cues::cues_at))]
 pub fn cues(indices: PsIndices, config: Config, layout: Layout, e: usize) -> Cues
     ensures { result ≡ cues_at layout config indices e }
 {
-    let iid = indices.iid;
-    let icc = indices.icc;
-    let ipd = indices.ipd;
-    let opd = indices.opd;
     Cues {
-        iid: mapped(iid, layout, e),
-        icc: mapped(icc, layout, e),
-        ipd: mapped_phases(ipd, config, layout, e),
-        opd: mapped_phases(opd, config, layout, e),
+        iid: mapped(indices.iid, layout, e),
+        icc: mapped(indices.icc, layout, e),
+        ipd: mapped_phases(indices.ipd, config, layout, e),
+        opd: mapped_phases(indices.opd, config, layout, e),
     }
 }
