@@ -18,8 +18,7 @@ use Rattle.standard.specs.Channel.{Channel, channel_after, third_output}
 use Rattle.standard.specs.Mixing.{left_of, right_of}
 use Rattle.ps_allpass_groups.specs.declared.lanes.Four.{Four}
 use Rattle.ps_allpass_groups.specs.declared.lanes.Pair.{Pair}
-use Rattle.ps_allpass_groups.specs.declared.mixing.Marks.{Marks}
-use Rattle.ps_allpass_groups.specs.Lanes.{number_of, lane_of, mark_of, lanes, flat}
+use Rattle.ps_allpass_groups.specs.Lanes.{Marks, number_of, lane_of, mark_of, lanes, flat}
 use Rattle.ps_allpass_groups.specs.Desk.{chain_on, matrix_on, sample_on, duck_on, left_on, right_on}
 use Rattle.ps_allpass_groups.specs.Rings.{Holds}
 use Rattle.ps_allpass_groups.specs.Groups.{side_on, Grouped}

@@ -16,8 +16,7 @@ use Rattle.lists.specs.Part.{part, put}
 use Rattle.lists.proofs.Parts.{tail_lent, part_length, part_put, part_put_before, part_put_behind}
 use Rattle.ps_map.specs.Bands.{conjugated_of}
 use Rattle.standard.specs.Mixing.{left_of, right_of}
-use Rattle.ps_allpass_groups.specs.declared.mixing.Marks.{Marks}
-use Rattle.ps_allpass_groups.specs.Lanes.{mark_of}
+use Rattle.ps_allpass_groups.specs.Lanes.{Marks, mark_of}
 use Rattle.ps_allpass_groups.specs.Groups.{side_on, Grouped, AllGrouped}
 
 -- a part as `&mut s[a..a + n]` lends it, and the list once it is back

@@ -14,8 +14,7 @@ use Rattle.lists.specs.Part.{put}
 use Rattle.lists.proofs.Parts.{part_length, tail_back, put_line}
 use Rattle.standard.specs.Mixing.{taken, left_of, right_of}
 use Rattle.ps_allpass_groups.specs.declared.lanes.Pair.{Pair}
-use Rattle.ps_allpass_groups.specs.declared.mixing.Marks.{Marks}
-use Rattle.ps_allpass_groups.specs.Lanes.{lane_of, mark_of, lanes, flat}
+use Rattle.ps_allpass_groups.specs.Lanes.{Marks, lane_of, mark_of, lanes, flat}
 use Rattle.ps_allpass_groups.specs.Desk.{matrix_on}
 use Rattle.ps_allpass_groups.proofs.OfLanes.{lane_of_lem, lanes_same}
 use Rattle.ps_allpass_groups.proofs.Ways.{on_way, way_11, way_12, way_21, way_22}

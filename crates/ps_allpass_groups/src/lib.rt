@@ -20,27 +20,10 @@ use mixing::Marks;
 fn marks(layout: Layout, g: usize) -> Marks
     ensures { (i : ℕ) → i < 4 → mark_of i result ≡ conjugated_of layout (4 * g + i) }
 {
-    match layout {
-        Layout::Bands20 => {
-            let first = g == 0;
-            Marks {
-                any: first,
-                a: first,
-                b: first,
-                c: false,
-                d: false,
-            }
-        }
-        Layout::Bands34 => {
-            let third = g == 2;
-            Marks {
-                any: third,
-                a: false,
-                b: third,
-                c: third,
-                d: third,
-            }
-        }
+    match (layout, g) {
+        (Layout::Bands20, 0) => Some([true, true, false, false]),
+        (Layout::Bands34, 2) => Some([false, true, true, true]),
+        _ => None,
     }
 }
 

@@ -11,15 +11,8 @@ ghost use Rattle.ps_allpass_groups.specs.Desk.{matrix_on};
 use super::lanes;
 use super::lanes::{Four, Pair};
 
-// Which of four channels are marked with *: none where `any` is false. Few groups have any.
-#[derive(Clone, Copy)]
-pub struct Marks {
-    pub any: bool,
-    pub a: bool,
-    pub b: bool,
-    pub c: bool,
-    pub d: bool,
-}
+// Which of four channels are marked with *. Few groups have any.
+pub type Marks = Option<[bool; 4]>;
 
 fn signed(marked: bool, x: f64) -> f64
     ensures { result ≡ cond marked (neg x) x }
@@ -31,18 +24,16 @@ fn signed(marked: bool, x: f64) -> f64
 fn taken(marks: Marks, h: Pair) -> Pair
     ensures { result ≡ lanes (λ i. mixing.taken (mark_of i marks) (lane_of i h)) }
 {
-    if !marks.any {
-        return h;
-    }
-    let re = h.re;
-    let im = h.im;
-    Pair {
-        re: re,
-        im: Four {
-            a: signed(marks.a, im.a),
-            b: signed(marks.b, im.b),
-            c: signed(marks.c, im.c),
-            d: signed(marks.d, im.d),
+    match marks {
+        None => h,
+        Some(marked) => Pair {
+            re: h.re,
+            im: Four {
+                a: signed(marked[0], h.im.a),
+                b: signed(marked[1], h.im.b),
+                c: signed(marked[2], h.im.c),
+                d: signed(marked[3], h.im.d),
+            },
         },
     }
 }
