@@ -1,5 +1,5 @@
 -- Which case of `map_row` a row's length and a layout pick. Assumes nothing.
-use mathlib.Core.Path.{◌≡◌, ap, ◌∙◌}
+use mathlib.Core.Path.{◌≡◌, refl, ap, ◌∙◌}
 use mathlib.Core.List.{List, ◌++◌, map}
 use Prim.Native.Nat.{ℕ, ◌*◌}
 use native.Mathlib.Omega.{arith}
@@ -28,10 +28,10 @@ module _ (v : List ℤ) where
   ten_to_twenty Bands20 h e = rw h
   ten_to_twenty Bands34 h e = absurd (omega arith)
 
-  pub ten_by_twenty : (l : Layout) → length v ≡ 10 → bands_of l ≡ 34 → map_row v l ≡ map (index_from (duplicated v)) (sources_of l)
+  pub ten_by_twenty : (l : Layout) → length v ≡ 10 → (bands_of l ≡ 20 → ⊥) → map_row v l ≡ map (index_from (duplicated v)) (sources_of l)
   unfolding map_row
-  ten_by_twenty Bands20 h e = absurd (omega arith)
-  ten_by_twenty Bands34 h e = rw h
+  ten_by_twenty Bands20 h ne = absurd (ne refl)
+  ten_by_twenty Bands34 h ne = rw h
 
   -- the 20 places that 10 numbers take, each twice
   pub first_twenty : length v ≡ 10 → take 20 (padded_row (duplicated v)) ≡ duplicated v

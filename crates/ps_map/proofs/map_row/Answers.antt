@@ -2,6 +2,7 @@
 use mathlib.Core.Path.{◌≡◌, sym, ap, ◌∙◌}
 use mathlib.Core.List.{List, map}
 use Prim.Native.Nat.{ℕ, ◌*◌}
+use native.Mathlib.Omega.{arith}
 use lib.IntN.{ℤ}
 use lib.ListN.{length, take}
 use Rattle.layout.specs.Numbers.{bands_of}
@@ -35,4 +36,4 @@ returns-in-Bands34 c =
     let s = c.args in
     c.brought-in-Bands34.ensures
     ∙ ap (λ (t : List ℤ). padded_row (map (index_from t) (sources_of s.layout))) lent
-    ∙ ap padded_row (sym (ten_by_twenty s.v.now s.layout c.if-v-ne10.false (ap bands_of c.in-Bands34.is)))
+    ∙ ap padded_row (sym (ten_by_twenty s.v.now s.layout c.if-v-ne10.false (λ h. let e : bands_of s.layout ≡ 34 = ap bands_of c.in-Bands34.is in omega arith)))
