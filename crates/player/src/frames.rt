@@ -1,4 +1,6 @@
 // Frames: what a run carries from line to line, and what is done for each.
+ghost use Rattle.std.specs.Prelude.{◌≤◌};
+
 use crate::report;
 use crate::report::Tally;
 use answer::Answer;

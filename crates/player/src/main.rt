@@ -9,8 +9,7 @@ use frames::{Run, Stop, Streams};
 use programme::files::Failed;
 use programme::{arguments, files};
 use std::env::Env;
-use std::fs::Files;
-use std::fs::File;
+use std::fs::{File, Files};
 use text_lines::Line;
 
 // A line of more characters than the longest has is refused whatever they are, so one more than that is all that is held of it.

@@ -1,15 +1,14 @@
-// What the replay says, a line of standard output at a time.
+// What the replay says when it stops: a line of standard output.
+use std::fmt;
 
-fn say(rt: &impl Print, words: &[u8]) {
-    let _ = rt.write_all(words);
-}
-
-fn say_number(rt: &impl Print, n: u64) {
-    let _ = rt.print(n);
-}
-
-fn say_bits(rt: &impl Print, n: u64) {
-    let _ = print!(rt; "{n:016x}");
+// Runs begun, calls of the last of them that agree, and all calls by what they answered.
+#[derive(Clone, Copy, Default)]
+pub struct Counts {
+    pub runs: u64,
+    pub frames: u64,
+    pub accepted: u64,
+    pub refused: u64,
+    pub quiet: u64,
 }
 
 // A call of the stream: runs, and the frames of a run, count from 0.
@@ -19,68 +18,91 @@ pub struct Place {
     pub frame: u64,
 }
 
-fn say_place(rt: &impl Print, at: Place) {
-    say(rt, b"replay: run ");
-    say_number(rt, at.run);
-    say(rt, b" frame ");
-    say_number(rt, at.frame);
+#[derive(Clone, Copy)]
+pub enum Side {
+    Left,
+    Right,
 }
 
-pub fn broken(rt: &impl Print, at: Place) {
-    say_place(rt, at);
-    say(
-        rt,
-        b": the stream breaks off, or has a record that it cannot have\n",
-    );
+// What is wrong with a call, or with the stream there.
+#[derive(Clone, Copy)]
+pub enum Fault {
+    Broken,
+    Answer {
+        answer: u32,
+        wanted: u32,
+    },
+    Touched(Side),
+    Differs {
+        side: Side,
+        place: usize,
+        bits: u64,
+        wanted: u64,
+    },
 }
 
-pub fn answers(rt: &impl Print, at: Place, answer: u32, wanted: u32) {
-    say_place(rt, at);
-    say(rt, b": answer ");
-    say_number(rt, answer as u64);
-    say(rt, b", wanted ");
-    say_number(rt, wanted as u64);
-    say(rt, b"\n");
+// Why the replay stops: the stream ends as it should, or something is wrong.
+#[derive(Clone, Copy)]
+pub enum Stop {
+    End(Counts),
+    At(Place, Fault),
 }
 
-pub fn touched(rt: &impl Print, at: Place, side: &[u8]) {
-    say_place(rt, at);
-    say(rt, b": not accepted, and yet it wrote to ");
-    say(rt, side);
-    say(rt, b"\n");
-}
-
-fn say_sample(rt: &impl Print, side: &[u8], place: usize) {
-    say(rt, b": ");
-    say(rt, side);
-    say(rt, b" slot ");
-    say_number(rt, (place / 128) as u64);
-    say(rt, b" band ");
-    say_number(rt, (place % 128 / 2) as u64);
-    if place % 2 == 0 {
-        say(rt, b" re ");
-    } else {
-        say(rt, b" im ");
+impl fmt::Display for Side {
+    fn fmt<W: fmt::Write>(&self, f: &mut fmt::Formatter<W>) -> fmt::Result {
+        f.write_str(match self {
+            Side::Left => "left",
+            Side::Right => "right",
+        })
     }
 }
 
-pub fn differs(rt: &impl Print, at: Place, side: &[u8], place: usize, bits: u64, wanted: u64) {
-    say_place(rt, at);
-    say_sample(rt, side, place);
-    say_bits(rt, bits);
-    say(rt, b", wanted ");
-    say_bits(rt, wanted);
-    say(rt, b"\n");
+impl fmt::Display for Fault {
+    fn fmt<W: fmt::Write>(&self, f: &mut fmt::Formatter<W>) -> fmt::Result {
+        match *self {
+            Fault::Broken => f.write_str(
+                "the stream breaks off, or has a record that it cannot have",
+            ),
+            Fault::Answer { answer, wanted } => write!(f, "answer {answer}, wanted {wanted}"),
+            Fault::Touched(side) => write!(f, "not accepted, and yet it wrote to {side}"),
+            Fault::Differs {
+                side,
+                place,
+                bits,
+                wanted,
+            } => {
+                let slot = place / 128;
+                let band = place % 128 / 2;
+                let part = if place % 2 == 0 { "re" } else { "im" };
+                write!(
+                    f,
+                    "{side} slot {slot} band {band} {part} {bits:016x}, wanted {wanted:016x}"
+                )
+            }
+        }
+    }
 }
 
-pub fn summary(rt: &impl Print, runs: u64, accepted: u64, refused: u64, quiet: u64) {
-    say(rt, b"replay: ");
-    say_number(rt, runs);
-    say(rt, b" runs held: ");
-    say_number(rt, accepted);
-    say(rt, b" frames accepted, ");
-    say_number(rt, refused);
-    say(rt, b" refused, ");
-    say_number(rt, quiet);
-    say(rt, b" quiet\n");
+impl fmt::Display for Stop {
+    fn fmt<W: fmt::Write>(&self, f: &mut fmt::Formatter<W>) -> fmt::Result {
+        match *self {
+            Stop::End(counts) => {
+                let Counts {
+                    runs,
+                    accepted,
+                    refused,
+                    quiet,
+                    ..
+                } = counts;
+                write!(
+                    f,
+                    "replay: {runs} runs held: {accepted} frames accepted, {refused} refused, {quiet} quiet"
+                )
+            }
+            Stop::At(at, fault) => {
+                let Place { run, frame } = at;
+                write!(f, "replay: run {run} frame {frame}: {fault}")
+            }
+        }
+    }
 }
