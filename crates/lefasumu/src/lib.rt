@@ -23,7 +23,7 @@ pub fn lefasumu_memory() -> usize
 fn told(answer: Answer) -> u32
     ensures { result ≡ number_of answer }
 {
-    answer.number() as u32
+    u32::from(u8::from(answer))
 }
 
 // Makes memory that of a fresh decoder, whatever it held. Memory of another length is refused.
