@@ -4,13 +4,17 @@ ghost use Rattle.std.specs.Prelude.{◌≤◌};
 use super::both;
 use super::both::Both;
 use super::play::{Call, INPUT, SIDE};
-use programme::arguments::Number;
+use programme::files::Failed;
 use programme::{arguments, files, rows};
 use std::env::Env;
 use std::fs::{File, Files};
+use text_lines::Line;
 
 // The place of the channel's number among the arguments, which may lack it.
 const CHANNEL: usize = 5;
+
+// A line of more characters than the longest has is refused whatever they are, so one more than that is all that is held of it.
+const HELD: usize = limits::DIGITS + 1;
 
 // The files of a programme.
 #[derive(Drop)]
@@ -31,10 +35,8 @@ struct Run {
     ahead: usize,
     // The lines so far.
     number: u64,
-    // How many characters the line that has begun has had.
-    count: u64,
-    // A file failed or the samples ended: no more is played.
-    failed: bool,
+    // An Err once a file failed or the samples ended: no more is played.
+    outcome: Result<(), Failed>,
 }
 
 fn complain(rt: &impl Eprint, text: &str) {
@@ -66,89 +68,73 @@ impl Run {
         rows::carry(&mut self.input, slots);
     }
 
-    fn play_line(&mut self, rt: &(impl Env + Print + Eprint), streams: &Streams, line: &[u8]) {
-        self.count = 0;
-        if self.failed {
-            return;
-        }
+    // One cue line, without its newline.
+    fn play_line(
+        &mut self,
+        rt: &(impl Env + Print + Eprint),
+        samples: &File,
+        line: &[u8],
+    ) -> Result<(), Failed> {
         self.number = self.number.wrapping_add(1);
         let slots = borders::slots(self.asked);
         let ahead = self.ahead.min(6);
-        let got = rows::fetch(rt, &streams.samples, slots, ahead, &mut self.input);
-        if got.failed {
-            self.failed = true;
-            return;
-        }
-        let there = ahead + got.rows;
+        let there = ahead + rows::fetch(rt, samples, slots, ahead, &mut self.input)?;
         if there < slots {
             complain(rt, "the samples are too short for the lines");
-            self.failed = true;
-            return;
+            return Err(Failed);
         }
         self.ahead = there - slots;
         self.frame(rt, line, slots);
+        Ok(())
     }
 
     // The line that has begun is complete.
-    fn end_line(&mut self, rt: &(impl Env + Print + Eprint), streams: &Streams, line: &[u8]) {
-        self.play_line(rt, streams, text_lines::held(line, self.count));
-    }
-
-    // A piece of the file of lines: the lines that end in it, and the beginning of the next.
-    fn play_piece(
-        &mut self,
-        rt: &(impl Env + Print + Eprint),
-        streams: &Streams,
-        line: &mut [u8],
-        piece: &[u8],
-    ) {
-        let mut from = 0;
-        while from < piece.len() {
-            let step = text_lines::step(line, self.count, piece, from);
-            from = step.next;
-            self.count = step.count;
-            if step.ended {
-                self.end_line(rt, streams, line);
-            }
+    fn end_line(&mut self, rt: &(impl Env + Print + Eprint), samples: &File, line: &[u8]) {
+        if self.outcome.is_ok() {
+            self.outcome = self.play_line(rt, samples, line);
         }
     }
 
     fn play_all(&mut self, rt: &(impl Env + Print + Eprint), streams: &Streams) {
-        // A line of more characters than the longest has is refused whatever they are, so one more than that is all that is held of it.
-        let mut line = [0u8; limits::DIGITS + 1];
+        let mut line = Line::<HELD>::new();
         let mut piece = [0u8; 65536];
         self.both.start(self.asked);
         // A proved loop has to end: no file uses up these turns.
         for _ in 0..u64::MAX {
-            let got = files::read_some(rt, files::LINES, &streams.lines, &mut piece);
-            let used = got.count;
+            let Ok(used) = files::read_some(rt, files::LINES, &streams.lines, &mut piece) else {
+                self.outcome = Err(Failed);
+                break;
+            };
             if used == 0 {
-                self.failed = self.failed | got.failed;
                 break;
             }
-            self.play_piece(rt, streams, &mut line, &piece[..used]);
+            line.each(&piece[..used], |text| {
+                self.end_line(rt, &streams.samples, text)
+            });
         }
-        if 0 < self.count {
-            self.end_line(rt, streams, &line);
+        if 0 < line.count {
+            self.end_line(rt, &streams.samples, line.held());
         }
     }
 }
 
 // ---- the program
 
-fn open<R: Files<File = File> + Env + Print + Eprint>(
+fn open<R: Files<File = File> + Env + Eprint>(rt: &R) -> Result<Streams, Failed> {
+    let lines = files::open_to_read(rt, files::LINES)?;
+    let samples = files::open_to_read(rt, files::SAMPLES)?;
+    Ok(Streams { lines, samples })
+}
+
+fn play<R: Files<File = File> + Env + Print + Eprint>(
     rt: &R,
     asked: usize,
     edge: usize,
     wanted: Option<usize>,
 ) {
-    let Some(lines) = files::open_to_read(rt, files::LINES) else {
+    let Ok(streams) = open(rt) else {
         return;
     };
-    let Some(samples) = files::open_to_read(rt, files::SAMPLES) else {
-        return;
-    };
-    let streams = Streams { lines, samples };
     let mut run = Run {
         asked,
         edge,
@@ -157,11 +143,10 @@ fn open<R: Files<File = File> + Env + Print + Eprint>(
         input: [0.0; INPUT],
         ahead: 0,
         number: 0,
-        count: 0,
-        failed: false,
+        outcome: Ok(()),
     };
     run.play_all(rt, &streams);
-    if !run.failed {
+    if run.outcome.is_ok() {
         run.both.conclude(rt);
     }
 }
@@ -171,41 +156,30 @@ fn misused(rt: &impl Eprint) {
     complain(rt, "stages wants SLOTS EDGE LINES SAMPLES [CHANNEL]");
 }
 
-fn with_channel<R: Files<File = File> + Env + Print + Eprint>(rt: &R, asked: usize, edge: usize) {
-    let channel = arguments::number_at(rt, CHANNEL);
-    match channel {
-        Number::Given(k) => {
-            if k < 91 {
-                open(rt, asked, edge, Some(k));
-            } else {
-                complain(
-                    rt,
-                    "there is no channel above 90, which is the last of 34 bands; that of 20 bands is 70",
-                );
-            }
-        }
-        Number::Missing => misused(rt),
+fn play_channel<R: Files<File = File> + Env + Print + Eprint>(rt: &R, asked: usize, edge: usize) {
+    match arguments::number_at(rt, CHANNEL) {
+        Some(k) if k < 91 => play(rt, asked, edge, Some(k)),
+        Some(_) => complain(
+            rt,
+            "there is no channel above 90, which is the last of 34 bands; that of 20 bands is 70",
+        ),
+        None => misused(rt),
     }
 }
 
 pub fn all<R: Files<File = File> + Env + Print + Eprint>(rt: &R) {
-    let asked = arguments::number_at(rt, 1);
-    let edge = arguments::number_at(rt, 2);
-    let Number::Given(slots) = asked else {
+    let numbers = (arguments::number_at(rt, 1), arguments::number_at(rt, 2));
+    let (Some(slots), Some(bands)) = numbers else {
         misused(rt);
         return;
     };
-    let Number::Given(bands) = edge else {
-        misused(rt);
-        return;
-    };
-    if !(arguments::named(rt, files::LINES) & arguments::named(rt, files::SAMPLES)) {
+    if !(arguments::named(rt, files::LINES) && arguments::named(rt, files::SAMPLES)) {
         misused(rt);
         return;
     }
     match arguments::count(rt) {
-        5 => open(rt, slots, bands, None),
-        6 => with_channel(rt, slots, bands),
+        5 => play(rt, slots, bands, None),
+        6 => play_channel(rt, slots, bands),
         _ => misused(rt),
     }
 }
