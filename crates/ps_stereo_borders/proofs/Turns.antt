@@ -11,7 +11,7 @@ use Rattle.layout.specs.declared.Layout.{Layout}
 use Rattle.layout.specs.Numbers.{bands_of}
 use Rattle.limits.specs.Limits as limits
 use Rattle.mixing_table.specs.Values.{mixing}
-use Rattle.ps_data.specs.declared.PsIndices.{PsIndices}
+use Rattle.ps_data.specs.Indices.{PsIndices}
 use Rattle.ps_stereo_cues.specs.Cues.{cues_at}
 use Rattle.ps_stereo_envelope.specs.Envelope as envelope
 use Rattle.ps_stereo_envelope.proofs.Fits.{kept_fit, rows_fit}
