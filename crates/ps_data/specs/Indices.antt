@@ -4,6 +4,7 @@ use Rattle.limits.specs.Limits as limits
 use Rattle.lists.specs.Padded.{padded}
 use Rattle.answer.specs.declared.Answer.{Answer}
 use Rattle.answer.specs.declared.Answer.TheVariants.{Done, Quiet}
+use Rattle.ps_kinds.specs.declared.Kinds.{Kinds}
 use Rattle.layout.specs.declared.Layout.{Layout}
 use Rattle.layout.specs.declared.Layout.TheVariants.{Bands20, Bands34}
 use Rattle.cue.specs.declared.Block.{Block}
@@ -16,7 +17,6 @@ use Rattle.cue.specs.Fields.{fine_of}
 use Rattle.cue.specs.Line.{no_header, read_line}
 use Rattle.ps_rows.specs.declared.Kind.{Kind}
 use Rattle.ps_rows.specs.declared.Kind.TheVariants.{Coarse, Fine, Coherence, Phase}
-use Rattle.ps_rows.specs.declared.Kinds.{Kinds}
 use Rattle.ps_rows.specs.declared.Row.{Row}
 use Rattle.ps_rows.specs.declared.Rows.{Rows}
 use Rattle.ps_rows.specs.declared.ResolvedKind.{ResolvedKind}

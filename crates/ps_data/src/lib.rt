@@ -10,7 +10,8 @@ ghost use Rattle.ps_data.specs.Indices.{on_thirty_four, layout_of, layout_in, re
 use answer::Answer;
 use cue::{Config, Header, Parameter};
 use layout::Layout;
-use ps_rows::{Kinds, Row, Rows};
+use ps_kinds::Kinds;
+use ps_rows::{Row, Rows};
 
 // The row of each kind's last envelope.
 pub type PsIndexState = Kinds<Row>;

@@ -31,15 +31,6 @@ pub struct Rows {
     pub used: u16,
 }
 
-// Something of each kind of parameter.
-#[derive(Clone, Copy)]
-pub struct Kinds<T> {
-    pub iid: T,
-    pub icc: T,
-    pub ipd: T,
-    pub opd: T,
-}
-
 // A frame's rows, and the row that the next frame's time rows start from.
 #[derive(Clone, Copy)]
 pub struct ResolvedKind {
