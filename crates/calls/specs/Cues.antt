@@ -3,7 +3,7 @@ use Rattle.std.specs.Prelude.{ℕ, min, List, [], ℤ, pos, get_or, take}
 use Rattle.cue.specs.declared.Config.{Config}
 use Rattle.cue.specs.Fields.{parameters_of}
 use Rattle.layout.specs.declared.Layout.{Layout}
-use Rattle.ps_data.specs.declared.PsIndices.{PsIndices}
+use Rattle.ps_data.specs.Indices.{PsIndices}
 use Rattle.ps_map.specs.Maps.{map_row, padded_row, extended_to}
 use Rattle.ps_rows.specs.declared.Row.{Row}
 use Rattle.ps_rows.specs.declared.Rows.{Rows}

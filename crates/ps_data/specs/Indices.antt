@@ -4,6 +4,7 @@ use Rattle.limits.specs.Limits as limits
 use Rattle.lists.specs.Padded.{padded}
 use Rattle.answer.specs.declared.Answer.{Answer}
 use Rattle.answer.specs.declared.Answer.TheVariants.{Done, Quiet}
+use Rattle.ps_kinds.specs.declared.Kinds.{Kinds}
 use Rattle.layout.specs.declared.Layout.{Layout}
 use Rattle.layout.specs.declared.Layout.TheVariants.{Bands20, Bands34}
 use Rattle.cue.specs.declared.Block.{Block}
@@ -17,12 +18,18 @@ use Rattle.cue.specs.Line.{no_header, read_line}
 use Rattle.ps_rows.specs.declared.Kind.{Kind}
 use Rattle.ps_rows.specs.declared.Kind.TheVariants.{Coarse, Fine, Coherence, Phase}
 use Rattle.ps_rows.specs.declared.Row.{Row}
+use Rattle.ps_rows.specs.declared.Rows.{Rows}
 use Rattle.ps_rows.specs.declared.ResolvedKind.{ResolvedKind}
 use Rattle.ps_rows.specs.Rows.{padded_row, padded_rows, resolve_kind}
-use Rattle.ps_data.specs.declared.PsIndexState.{PsIndexState}
-use Rattle.ps_data.specs.declared.PsIndices.{PsIndices}
 use Rattle.ps_data.specs.declared.PsLines.{PsLines}
 use Rattle.ps_data.specs.declared.Resolved.{Resolved}
+
+-- the row of each kind's last envelope, and a frame's rows
+abbrev pub PsIndexState : Type 0
+PsIndexState = Kinds Row
+
+abbrev pub PsIndices : Type 0
+PsIndices = Kinds Rows
 
 -- ---- configuration
 

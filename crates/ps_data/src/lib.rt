@@ -10,16 +10,11 @@ ghost use Rattle.ps_data.specs.Indices.{on_thirty_four, layout_of, layout_in, re
 use answer::Answer;
 use cue::{Config, Header, Parameter};
 use layout::Layout;
+use ps_kinds::Kinds;
 use ps_rows::{Row, Rows};
 
 // The row of each kind's last envelope.
-#[derive(Clone, Copy)]
-pub struct PsIndexState {
-    pub iid: Row,
-    pub icc: Row,
-    pub ipd: Row,
-    pub opd: Row,
-}
+pub type PsIndexState = Kinds<Row>;
 
 // What the lines so far have left: whether a configuration has come, and the rows that the next line's time rows start from.
 #[derive(Clone, Copy)]
@@ -29,13 +24,7 @@ pub struct PsLines {
 }
 
 // A frame's rows.
-#[derive(Clone, Copy)]
-pub struct PsIndices {
-    pub iid: Rows,
-    pub icc: Rows,
-    pub ipd: Rows,
-    pub opd: Rows,
-}
+pub type PsIndices = Kinds<Rows>;
 
 // What a line that is read says, what it and those before it have left, its indices, and its own borders where they are variable.
 #[derive(Clone, Copy)]

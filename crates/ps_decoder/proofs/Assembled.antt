@@ -16,7 +16,7 @@ use Rattle.lists.specs.Part.{part, put}
 use Rattle.lists.proofs.Parts.{part_length, part_put, part_put_before, part_put_behind}
 use Rattle.ps_allpass_channels.specs.Channels as chains
 use Rattle.ps_data.specs.declared.PsLines.{PsLines}
-use Rattle.ps_data.specs.declared.PsIndices.{PsIndices}
+use Rattle.ps_data.specs.Indices.{PsIndices}
 use Rattle.ps_decorr_transient.specs.Gains.{detectors_after, gains_after}
 use Rattle.ps_delay_channels.specs.Channels as delayed
 use Rattle.ps_hybrid_analysis.specs.Analysis.{history_after, samples_after}

@@ -22,7 +22,7 @@ use Rattle.lists.proofs.Padded.{padded_take}
 use Rattle.lists.proofs.Parts.{part_length, part_part, part_front}
 use Rattle.lists.proofs.Rows.{rows_length, rows_part}
 use Rattle.planar.specs.Frame.{kept_matrix, numbers_of}
-use Rattle.ps_data.specs.declared.PsIndices.{PsIndices}
+use Rattle.ps_data.specs.Indices.{PsIndices}
 use Rattle.ps_stereo_borders.specs.Borders.{kept_then, courses_then, fits, rows_after, matrices_after, phases_after}
 use Rattle.ps_stereo.specs.Kept.{matrices_with, phases_with}
 use Rattle.ps_stereo_slots.specs.Slots.{borders_of, border_matrix}

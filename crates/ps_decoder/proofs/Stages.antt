@@ -21,7 +21,7 @@ use Rattle.lists.proofs.Alls.{both}
 use Rattle.planar.specs.Frame.{sample_in, qmf_rows}
 use Rattle.ps_allpass_channels.specs.Channels as chains
 use Rattle.ps_data.specs.declared.PsLines.{PsLines}
-use Rattle.ps_data.specs.declared.PsIndices.{PsIndices}
+use Rattle.ps_data.specs.Indices.{PsIndices}
 use Rattle.ps_decorr.specs.Channels.{plain_with}
 use Rattle.ps_decorr.proofs.Held.{plain_wraps}
 use Rattle.ps_decorr_allpass.specs.Memory.{delays_with}

@@ -8,7 +8,7 @@ use Rattle.limits.specs.Limits as limits
 use Rattle.lists.specs.Padded.{padded}
 use Rattle.phase_table.specs.Values.{phase}
 use Rattle.ps_data.specs.declared.PsLines.{PsLines}
-use Rattle.ps_data.specs.declared.PsIndices.{PsIndices}
+use Rattle.ps_data.specs.Indices.{PsIndices}
 use Rattle.ps_data.specs.declared.Resolved.{Resolved}
 use Rattle.ps_allpass_channels.specs.Channels as chains
 use Rattle.ps_decorr_transient.specs.Gains as gains

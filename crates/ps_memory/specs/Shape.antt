@@ -1,7 +1,7 @@
 -- The states that a memory keeps whole. In code the lengths and the ranges of indices hold by their types. Assumes nothing.
 use Rattle.std.specs.Prelude.{ℕ, ◌≤◌, ◌<◌, ◌≡◌, List, ℤ, pos, length, get_or}
 use Rattle.std.specs.Int.Signed.{mag}
-use Rattle.ps_data.specs.declared.PsIndexState.{PsIndexState}
+use Rattle.ps_data.specs.Indices.{PsIndexState}
 use Rattle.ps_rows.specs.declared.Row.{Row}
 use Rattle.ps_state.specs.declared.PsDecoder.{PsDecoder}
 use Rattle.ps_state.specs.Shape.{Shaped}

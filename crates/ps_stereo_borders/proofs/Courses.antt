@@ -23,7 +23,7 @@ use Rattle.lists.proofs.Parts.{part_length, part_part}
 use Rattle.lists.proofs.Rows.{rows_same, rows_length, rows_whole}
 use Rattle.mixing_table.specs.Values.{mixing}
 use Rattle.planar.specs.Frame.{numbers_of}
-use Rattle.ps_data.specs.declared.PsIndices.{PsIndices}
+use Rattle.ps_data.specs.Indices.{PsIndices}
 use Rattle.ps_stereo.specs.Kept.{matrices_with}
 use Rattle.ps_stereo_cues.specs.Cues.{cues_at}
 use Rattle.ps_stereo_envelope.specs.Envelope as envelope

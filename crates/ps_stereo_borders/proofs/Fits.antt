@@ -13,7 +13,7 @@ use Rattle.cue.specs.declared.Header.{Header}
 use Rattle.layout.specs.declared.Layout.{Layout}
 use Rattle.layout.specs.Numbers.{bands_of}
 use Rattle.limits.specs.Limits as limits
-use Rattle.ps_data.specs.declared.PsIndices.{PsIndices}
+use Rattle.ps_data.specs.Indices.{PsIndices}
 use Rattle.ps_stereo.specs.Kept.{matrices_with, phases_with}
 use Rattle.ps_stereo_borders.specs.Borders.{kept_then, courses_then, fits, rows_after, matrices_after, phases_after}
 use Rattle.ps_stereo_borders.specs.Steps.{copied, Advanced}

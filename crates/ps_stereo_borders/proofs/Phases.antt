@@ -15,7 +15,7 @@ use Rattle.layout.specs.Numbers.{bands_of}
 use Rattle.lists.specs.Part.{part}
 use Rattle.lists.proofs.Rows.{rows_same}
 use Rattle.planar.specs.Frame.{ipd_of, opd_of, phase_numbers}
-use Rattle.ps_data.specs.declared.PsIndices.{PsIndices}
+use Rattle.ps_data.specs.Indices.{PsIndices}
 use Rattle.ps_stereo.specs.Kept.{phases_with}
 use Rattle.ps_stereo_cues.specs.Cues.{cues_at}
 use Rattle.ps_stereo_envelope.specs.Envelope as envelope

@@ -11,7 +11,7 @@ use Rattle.cue.specs.declared.Header.{Header}
 use Rattle.layout.specs.declared.Layout.{Layout}
 use Rattle.mixing_table.specs.Values.{mixing}
 use Rattle.phase_table.specs.Values.{phase}
-use Rattle.ps_data.specs.declared.PsIndices.{PsIndices}
+use Rattle.ps_data.specs.Indices.{PsIndices}
 use Rattle.ps_stereo.specs.Kept.{kept_in}
 use Rattle.standard.specs.declared.Matrix.{Matrix}
 use Rattle.standard.specs.declared.Modes.{Modes}

@@ -11,11 +11,11 @@ use Rattle.layout.specs.declared.Layout.{Layout}
 use Rattle.layout.specs.Numbers.{bands_of}
 use Rattle.limits.specs.Limits as limits
 use Rattle.mixing_table.specs.Values.{mixing}
-use Rattle.ps_data.specs.declared.PsIndices.{PsIndices}
+use Rattle.ps_data.specs.Indices.{PsIndices}
 use Rattle.ps_stereo_cues.specs.Cues.{cues_at}
 use Rattle.ps_stereo_envelope.specs.Envelope as envelope
 use Rattle.ps_stereo_envelope.proofs.Fits.{kept_fit, rows_fit}
-use Rattle.standard.specs.declared.Cues.{Cues}
+use Rattle.standard.specs.Mixing.{Cues}
 use Rattle.standard.specs.declared.Modes.{Modes}
 use Rattle.ps_stereo_borders.specs.Steps.{Advanced}
 use Rattle.ps_stereo_borders.proofs.Courses.{courses_more}

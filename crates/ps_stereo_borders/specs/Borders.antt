@@ -11,7 +11,7 @@ use Rattle.lists.specs.Part.{part}
 use Rattle.lists.specs.Rows as lists
 use Rattle.mixing_table.specs.Values.{mixing}
 use Rattle.planar.specs.Frame.{numbers_of}
-use Rattle.ps_data.specs.declared.PsIndices.{PsIndices}
+use Rattle.ps_data.specs.Indices.{PsIndices}
 use Rattle.ps_stereo.specs.Kept.{kept_in, matrices_with, phases_with}
 use Rattle.standard.specs.Mixing as standard
 use Rattle.standard.specs.Mixing.{Cue, Kept}

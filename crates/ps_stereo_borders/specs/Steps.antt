@@ -6,7 +6,7 @@ use Rattle.layout.specs.Numbers.{bands_of}
 use Rattle.limits.specs.Limits as limits
 use Rattle.lists.specs.Part.{part, put}
 use Rattle.lists.specs.Rows as lists
-use Rattle.ps_data.specs.declared.PsIndices.{PsIndices}
+use Rattle.ps_data.specs.Indices.{PsIndices}
 use Rattle.ps_stereo.specs.Kept.{phases_with}
 use Rattle.ps_stereo_borders.specs.Borders.{kept_then, courses_then}
 

@@ -3,8 +3,8 @@ use Rattle.std.specs.Prelude.{ℕ}
 use Rattle.calls.specs.Cues.{mapped_row, mapped_phases}
 use Rattle.cue.specs.declared.Config.{Config}
 use Rattle.layout.specs.declared.Layout.{Layout}
-use Rattle.ps_data.specs.declared.PsIndices.{PsIndices}
-use Rattle.standard.specs.declared.Cues.{Cues}
+use Rattle.ps_data.specs.Indices.{PsIndices}
+use Rattle.standard.specs.Mixing.{Cues}
 
 unfoldable pub cues_at : Layout → Config → PsIndices → ℕ → Cues
 cues_at l config indices e =

@@ -10,7 +10,7 @@ use lib.ListN.{length}
 use Rattle.layout.specs.declared.Layout.{Layout}
 use Rattle.layout.specs.Numbers.{bands_of}
 use Rattle.limits.specs.Limits as limits
-use Rattle.standard.specs.declared.Cues.{Cues}
+use Rattle.standard.specs.Mixing.{Cues}
 use Rattle.standard.specs.declared.Modes.{Modes}
 use Rattle.ps_stereo_envelope.specs.Envelope.{fits, rows_then, kept_then, rows_after, kept_after}
 

@@ -7,10 +7,9 @@ use Rattle.limits.specs.Limits as limits
 use Rattle.lists.specs.Part.{part, put}
 use Rattle.lists.specs.Rows as lists
 use Rattle.planar.specs.Frame.{numbers_of, ipd_of, opd_of, phase_numbers}
-use Rattle.standard.specs.declared.Cues.{Cues}
 use Rattle.standard.specs.declared.Matrix.{Matrix}
 use Rattle.standard.specs.declared.Modes.{Modes}
-use Rattle.standard.specs.Mixing.{no_matrix, Cue, Kept, matrix_from, phases_after}
+use Rattle.standard.specs.Mixing.{Cues, no_matrix, Cue, Kept, matrix_from, phases_after}
 
 -- band b's indices, and its four phase indices
 abbrev pub cue_of : Cues → ℕ → Cue

@@ -1,9 +1,9 @@
 -- What the crate's own functions ask and answer. Assumes nothing.
 use Rattle.std.specs.Prelude.{List, ℤ, pos, get_or}
+use Rattle.ps_kinds.specs.declared.Kinds.{Kinds}
 use Rattle.standard.specs.Mixing.{Cue, Phases}
-use Rattle.ps_stereo_envelope.specs.declared.Indices.{Indices}
 
-abbrev pub cue_in : Indices → Cue
+abbrev pub cue_in : Kinds ℤ → Cue
 cue_in i = record { iid = i.iid; icc = i.icc; ipd = i.ipd; opd = i.opd }
 
 -- two indices before an envelope

@@ -13,16 +13,11 @@ ghost use Rattle.ps_stereo_envelope.specs.Loops.{cue_in, before};
 
 use complex::Complex;
 use layout::Layout;
+use ps_kinds::Kinds;
 use standard::{Cues, Matrix, Modes};
 
 // The mapped indices of one band.
-#[derive(Clone, Copy)]
-struct Indices {
-    iid: i8,
-    icc: i8,
-    ipd: i8,
-    opd: i8,
-}
+type Indices = Kinds<i8>;
 
 // A negative index acts as 0.
 fn natural(index: i32) -> usize

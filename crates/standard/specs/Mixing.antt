@@ -2,6 +2,7 @@
 use Rattle.std.specs.Prelude.{ℕ, Bool, cond, List, ℤ, pos, ◌+ℤ◌, Float}
 use Rattle.complex.specs.declared.Complex.{Complex}
 use Rattle.complex.specs.Operations.{product, sum, conjugate}
+use Rattle.ps_kinds.specs.declared.Kinds.{Kinds}
 use Rattle.mixing_table.specs.declared.Coefficients.{Coefficients}
 use Rattle.mixing_table.specs.Coefficients.{coefficients_at}
 use Rattle.mixing_table.specs.Values.{mixing}
@@ -13,6 +14,10 @@ use Rattle.standard.specs.Numbers.{zero, nought, natural_of}
 
 abbrev pub no_matrix : Matrix
 no_matrix = record { h11 = nought; h12 = nought; h21 = nought; h22 = nought }
+
+-- an envelope's mapped indices, of each kind one for every band
+abbrev pub Cues : Type 0
+Cues = Kinds (List ℤ)
 
 -- one band's resolved and mapped indices in one envelope
 pub record Cue : Type 0 where

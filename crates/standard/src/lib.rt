@@ -3,6 +3,7 @@
 #![tactic(auto)]
 
 use complex::Complex;
+use ps_kinds::Kinds;
 
 // A link of an all-pass chain: Q(k, m), and a(m) g(k).
 #[derive(Clone, Copy)]
@@ -38,10 +39,4 @@ pub struct Modes {
 }
 
 // The mapped indices of an envelope, for each band; 0 where a kind is absent.
-#[derive(Clone, Copy)]
-pub struct Cues {
-    pub iid: [i8; 34],
-    pub icc: [i8; 34],
-    pub ipd: [i8; 34],
-    pub opd: [i8; 34],
-}
+pub type Cues = Kinds<[i8; 34]>;

@@ -13,7 +13,7 @@ use Rattle.cue.specs.declared.Header.{Header}
 use Rattle.layout.specs.declared.Layout.{Layout}
 use Rattle.layout.specs.Numbers.{bands_of}
 use Rattle.limits.specs.Limits as limits
-use Rattle.ps_data.specs.declared.PsIndices.{PsIndices}
+use Rattle.ps_data.specs.Indices.{PsIndices}
 use Rattle.standard.specs.declared.Modes.{Modes}
 use Rattle.ps_stereo_borders.specs.Steps.{Advanced}
 use Rattle.ps_stereo_borders.proofs.Turns.{turn_none, turn_more, turn_all}

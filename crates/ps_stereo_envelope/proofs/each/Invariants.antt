@@ -17,7 +17,7 @@ use Rattle.lists.proofs.Front.{front_long, front_lent}
 use Rattle.lists.proofs.Parts.{part_length}
 use Rattle.lists.proofs.Rows.{Rowed, rowed_none, rowed_more}
 use Rattle.planar.specs.Frame.{numbers_of}
-use Rattle.standard.specs.declared.Cues.{Cues}
+use Rattle.standard.specs.Mixing.{Cues}
 use Rattle.standard.specs.declared.Modes.{Modes}
 use Rattle.ps_stereo_envelope.specs.Envelope.{cue_of, phases_of, matrix_at, phases_then, rows_then, kept_then}
 use Rattle.ps_stereo_envelope.proofs.Courses.{rowed_part}

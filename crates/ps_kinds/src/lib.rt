@@ -1,0 +1,10 @@
+// Something of each kind of parameter: a row, the rows of a frame, the mapped indices of an envelope.
+#![tactic(auto)]
+
+#[derive(Clone, Copy)]
+pub struct Kinds<T> {
+    pub iid: T,
+    pub icc: T,
+    pub ipd: T,
+    pub opd: T,
+}
