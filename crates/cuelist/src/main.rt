@@ -6,52 +6,43 @@ mod text;
 
 use answer::Answer;
 use ps_data::{PsIndices, PsLines};
-use std::io::{Error, ErrorKind, Read};
+use std::io::{ErrorKind, Read};
 use std::process::ExitCode;
-use text::Listed;
+use text::Text;
 
 // A line of more characters than the longest has is refused whatever they are, so one more than that is all that is held of it.
 const HELD: usize = limits::DIGITS + 1;
 
-// What is carried from line to line: what the lines so far have left, the number of the last line, whether all was written so far, and whether the output
-// still has a reader.
+// What is carried from line to line: what the lines so far have left, the number of the last line and its text, whether all was written so far, and whether
+// the output still has a reader.
 #[derive(Clone, Copy)]
 struct Listing {
     lines: PsLines,
     number: u64,
+    text: Text,
     written: bool,
     open: bool,
 }
 
 impl Listing {
-    // What a line is answered, and its indices.
-    fn resolve(&mut self, line: &[u8]) -> (Answer, PsIndices) {
-        match ps_data::resolve(self.lines, line) {
-            Ok(read) => {
-                let answer = ps_data::read_answer(read.header, self.lines.configured);
-                self.lines = read.lines;
-                (answer, read.indices)
-            }
-            Err(answer) => (answer, ps_data::no_indices()),
+    fn write(&mut self, out: &impl Print, answer: Answer, indices: &PsIndices) {
+        self.text.put_line(self.number, answer, indices);
+        if let Err(error) = out.write_all(self.text.bytes()) {
+            self.written = false;
+            self.open = self.open && error.kind() != ErrorKind::BrokenPipe;
         }
-    }
-
-    fn note(&mut self, error: Error) {
-        self.written = false;
-        self.open = self.open && error.kind() != ErrorKind::BrokenPipe;
     }
 
     // One line of the input, without its newline.
     fn list_line(&mut self, out: &impl Print, line: &[u8]) {
-        let (answer, indices) = self.resolve(line);
         self.number = self.number.wrapping_add(1);
-        let listed = Listed {
-            number: self.number,
-            answer,
-            indices,
-        };
-        if let Err(error) = println!(out; "{listed}") {
-            self.note(error);
+        match ps_data::resolve(self.lines, line) {
+            Ok(read) => {
+                let answer = ps_data::read_answer(read.header, self.lines.configured);
+                self.lines = read.lines;
+                self.write(out, answer, &read.indices);
+            }
+            Err(answer) => self.write(out, answer, &ps_data::no_indices()),
         }
     }
 }
@@ -77,6 +68,7 @@ fn main(rt: HostRuntime) -> ExitCode {
     let mut listing = Listing {
         lines: ps_data::fresh(),
         number: 0,
+        text: Text::new(),
         written: true,
         open: true,
     };

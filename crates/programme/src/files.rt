@@ -5,7 +5,6 @@ use crate::arguments;
 use crate::arguments::LONGEST;
 use std::env::Env;
 use std::fs::{File, Files};
-use std::io;
 use std::io::{Cursor, Error, ErrorKind, Read, Write};
 
 // The places of the names among the arguments, behind the slots and the spectrum edge.
@@ -44,7 +43,7 @@ fn tell(rt: &(impl Env + Eprint), place: usize, error: Error) -> Failed {
 }
 
 // What opening the file gives whose name stands at a place. A file's name is UTF-8 text.
-fn opened<F: FnOnce(&str) -> io::Result<File>>(
+fn opened<F: FnOnce(&str) -> Result<File, Error>>(
     rt: &(impl Env + Eprint),
     place: usize,
     by: F,

@@ -1,0 +1,5 @@
+-- A tenth of a number is smaller.
+use Rattle.cuelist.proofs.text.Text.+put_number.Given as goal
+
+abbrev pub decreases-put_number : goal.decreases-put_number
+decreases-put_number l = l.number
