@@ -1,7 +1,7 @@
 // Bytes 0 to 3, what stands where after them, and the first of a line's bytes that is out of range.
-ghost use Rattle.std.specs.Prelude.{◌≡◌, ◌+◌, ◌≤◌};
+ghost use Rattle.std.specs.Prelude.{◌≡◌, ◌+◌, ◌≤◌, cond};
 ghost use Rattle.cue.specs.Checks.{found, every, head_checks, time_checks, body_checks};
-ghost use Rattle.cue.specs.Fields.{by_mode, borders_size, rows_in, behind, places_of, header_of};
+ghost use Rattle.cue.specs.Fields.{by_mode, behind, places_of, header_of};
 
 use super::{Block, Config, Header, Parameter, Places};
 
@@ -37,25 +37,11 @@ pub fn header(bytes: &[u8; limits::BYTES]) -> Header
     }
 }
 
-fn borders_size(h: Header) -> usize
-    ensures { (result ≡ borders_size h) × (result ≤ 255) }
+// One for each envelope of what is there: border bytes, or the rows of a kind.
+fn each(there: bool, envelopes: u8) -> usize
+    ensures { (result ≡ cond there envelopes 0) × (result ≤ 255) }
 {
-    if h.variable {
-        usize::from(h.envelopes)
-    } else {
-        0
-    }
-}
-
-// The rows of a kind.
-fn rows_in(envelopes: u8, kind: Block) -> usize
-    ensures { (result ≡ rows_in envelopes kind) × (result ≤ 255) }
-{
-    if kind.present {
-        usize::from(envelopes)
-    } else {
-        0
-    }
+    if there { usize::from(envelopes) } else { 0 }
 }
 
 // The place behind a kind.
@@ -63,7 +49,7 @@ fn end(envelopes: u8, kind: Block) -> usize
     requires { (kind.place ≤ 65536) × (kind.count ≤ 34) }
     ensures { (result ≡ behind envelopes kind) × (result ≤ kind.place + 8925) }
 {
-    kind.place + rows_in(envelopes, kind) * (kind.count + 1)
+    kind.place + each(kind.present, envelopes) * (kind.count + 1)
 }
 
 #[tactic(auto, unfolding(crate::specs::Fields::places_of))]
@@ -73,7 +59,7 @@ pub fn places(h: Header) -> Places
     let iid = Block {
         present: h.config.iid.present,
         count: h.config.iid.count(),
-        place: 4 + borders_size(h),
+        place: 4 + each(h.variable, h.envelopes),
     };
     let icc = Block {
         present: h.config.icc.present,
@@ -131,7 +117,7 @@ fn first_bad_time(envelopes: u8, kind: Block, bytes: &[u8]) -> Option<usize>
         bytes,
         kind.place,
         kind.count + 1,
-        rows_in(envelopes, kind),
+        each(kind.present, envelopes),
         1,
     )
 }
@@ -141,7 +127,7 @@ pub fn first_bad_field(h: Header, at: Places, bytes: &[u8; limits::BYTES]) -> Op
     requires { at ≡ places_of h }
     ensures { result ≡ found bytes.now (body_checks h) }
 {
-    first_over(bytes, 4, 1, borders_size(h), 31)
+    first_over(bytes, 4, 1, each(h.variable, h.envelopes), 31)
         .or(first_bad_time(h.envelopes, at.iid, bytes))
         .or(first_bad_time(h.envelopes, at.icc, bytes))
         .or(first_bad_time(h.envelopes, at.ipd, bytes))

@@ -13,6 +13,7 @@ ghost use Rattle.cue.specs.Line.{answer_of, no_header, cue_of, read_bytes, read_
 use answer::Answer;
 
 // A kind of parameter: whether the frame brings it, and its mode.
+// Kept: the mode is no part of an Option, since it counts where the kind is absent too (specs/Fields `fine_of`, `rb_of`).
 #[derive(Clone, Copy)]
 pub struct Parameter {
     pub present: bool,
@@ -27,6 +28,7 @@ pub struct Config {
 }
 
 // What a line says before its rows. An empty line is not cued: it brings no configuration and no envelopes.
+// Kept: `cued` is a flag beside the rest, since calls/specs/Call (`header`, `modes_of`) reads the rest of an empty line too.
 #[derive(Clone, Copy)]
 pub struct Header {
     pub cued: bool,

@@ -1,4 +1,4 @@
-// Something of each kind of parameter: a row, the rows of a frame, the mapped indices of an envelope.
+// No code: something of each kind of parameter, as a row, the rows of a frame or the mapped indices of an envelope.
 #![tactic(auto)]
 
 #[derive(Clone, Copy)]

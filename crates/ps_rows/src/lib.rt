@@ -18,6 +18,7 @@ pub enum Kind {
 }
 
 // A row of indices: the first `used` of 34 places, zeros after them.
+// Kept: a count beside the places, here and in `Rows`, since fixed memory without a heap is a rule of the project and ps_memory keeps both.
 #[derive(Clone, Copy)]
 pub struct Row {
     pub at: [i8; 34],

@@ -28,7 +28,7 @@ returns c =
       c.first_bad_time-2.ensures,
       c.first_bad_time-3.ensures,
       c.first_bad_time-4.ensures,
-      c.borders_size.ensures.0,
+      c.each.ensures.0,
       c.requires,
     )
     (simp (found_or c.args.bytes.now, or_assoc))
