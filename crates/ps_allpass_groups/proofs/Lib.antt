@@ -1,4 +1,3 @@
-pub mod Stored
 pub mod OfLanes
 pub mod Cells
 pub mod Rings

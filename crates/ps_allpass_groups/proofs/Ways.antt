@@ -11,11 +11,6 @@ use Rattle.planar.specs.Cells.{cell}
 use Rattle.standard.specs.Mixing.{taken}
 use Rattle.ps_allpass_groups.specs.Desk.{from_on, step_on, matrix_on}
 
--- a conjugate keeps the real part
-pub taken_by_parts : (mark : Bool) (h : Complex) → record { re = h.re; im = cond mark (neg h.im) h.im } ≡ taken mark h
-taken_by_parts true h = refl
-taken_by_parts false h = refl
-
 -- the coefficient of lane i whose lanes stand from a place of the desk on, in a slot
 abbrev pub on_way : List Float → Float → Bool → ℕ → ℕ → Complex
 on_way desk t held at i = cond held (cell 4 desk (at + i)) (sum (cell 4 desk (at + i)) (scaled (cell 4 desk (at + 32 + i)) t))

@@ -17,10 +17,10 @@ fn link(cell: &mut [f64], u: Pair, rotation: Pair, feedback: Four) -> Pair
     ensures state { cell.new ≡ flat (lanes (λ i. link_state (lane_of i u) (link_of i rotation feedback) (cells.cell 4 cell.old i))) }
     ensures output { result ≡ lanes (λ i. link_output (lane_of i u) (link_of i rotation feedback) (cells.cell 4 cell.old i)) }
 {
-    let turned = rotation.mul(Pair::at(cell, 0));
-    let state = u.add(turned.scale(feedback));
+    let turned = rotation * Pair::at(cell, 0);
+    let state = u + turned.scale(feedback);
     lanes::put(cell, state);
-    turned.sub(state.scale(feedback))
+    turned - state.scale(feedback)
 }
 
 // The chains, on their channels' part of the delays: rings of 2, 3, 4 and 5 cells, each of which is at the number of slots before this one modulo its
@@ -35,7 +35,7 @@ pub fn chain(part: &mut [f64], desk: &[f64], turn: usize, x: Pair) -> Pair
     let three = 8 * (2 + turn % 3);
     let four = 8 * (5 + turn % 4);
     let five = 8 * (9 + turn % 5);
-    let u = Pair::at(desk, 0).mul(Pair::at(part, two));
+    let u = Pair::at(desk, 0) * Pair::at(part, two);
     lanes::put(&mut part[two..two + 8], x);
     let v = link(
         &mut part[three..three + 8],

@@ -6,6 +6,8 @@ ghost use Rattle.complex.specs.Operations.{product, sum, difference, scaled};
 ghost use Rattle.planar.specs.Cells.{cell};
 ghost use Rattle.ps_allpass_groups.specs.Lanes.{number_of, lane_of, four, lanes, flat};
 
+use std::ops::{Add, Mul, Sub};
+
 #[derive(Clone, Copy)]
 pub struct Four {
     pub a: f64,
@@ -21,10 +23,12 @@ pub struct Pair {
     pub im: Four,
 }
 
-impl Four {
-    pub fn add(self, other: Four) -> Four
-        ensures { result ≡ four (λ i. add binary64 (number_of i self) (number_of i other)) }
-    {
+impl Add for Four {
+    type Output = Four;
+
+    ghost add_gives = { λ x y z. z ≡ four (λ i. add binary64 (number_of i x) (number_of i y)) };
+
+    fn add(self, other: Four) -> Four {
         Four {
             a: self.a + other.a,
             b: self.b + other.b,
@@ -32,10 +36,14 @@ impl Four {
             d: self.d + other.d,
         }
     }
+}
 
-    pub fn sub(self, other: Four) -> Four
-        ensures { result ≡ four (λ i. sub binary64 (number_of i self) (number_of i other)) }
-    {
+impl Sub for Four {
+    type Output = Four;
+
+    ghost sub_gives = { λ x y z. z ≡ four (λ i. sub binary64 (number_of i x) (number_of i y)) };
+
+    fn sub(self, other: Four) -> Four {
         Four {
             a: self.a - other.a,
             b: self.b - other.b,
@@ -43,10 +51,14 @@ impl Four {
             d: self.d - other.d,
         }
     }
+}
 
-    pub fn mul(self, other: Four) -> Four
-        ensures { result ≡ four (λ i. mul binary64 (number_of i self) (number_of i other)) }
-    {
+impl Mul for Four {
+    type Output = Four;
+
+    ghost mul_gives = { λ x y z. z ≡ four (λ i. mul binary64 (number_of i x) (number_of i y)) };
+
+    fn mul(self, other: Four) -> Four {
         Four {
             a: self.a * other.a,
             b: self.b * other.b,
@@ -54,7 +66,9 @@ impl Four {
             d: self.d * other.d,
         }
     }
+}
 
+impl Four {
     // One number four times.
     pub fn all(x: f64) -> Four
         ensures { result ≡ four (λ i. x) }
@@ -80,40 +94,52 @@ impl Four {
     }
 }
 
+impl Add for Pair {
+    type Output = Pair;
+
+    ghost add_gives = { λ x y z. z ≡ lanes (λ i. sum (lane_of i x) (lane_of i y)) };
+
+    fn add(self, other: Pair) -> Pair {
+        Pair {
+            re: self.re + other.re,
+            im: self.im + other.im,
+        }
+    }
+}
+
+impl Sub for Pair {
+    type Output = Pair;
+
+    ghost sub_gives = { λ x y z. z ≡ lanes (λ i. difference (lane_of i x) (lane_of i y)) };
+
+    fn sub(self, other: Pair) -> Pair {
+        Pair {
+            re: self.re - other.re,
+            im: self.im - other.im,
+        }
+    }
+}
+
+impl Mul for Pair {
+    type Output = Pair;
+
+    ghost mul_gives = { λ x y z. z ≡ lanes (λ i. product (lane_of i x) (lane_of i y)) };
+
+    fn mul(self, other: Pair) -> Pair {
+        Pair {
+            re: self.re * other.re - self.im * other.im,
+            im: self.re * other.im + self.im * other.re,
+        }
+    }
+}
+
 impl Pair {
-    pub fn add(self, other: Pair) -> Pair
-        ensures { result ≡ lanes (λ i. sum (lane_of i self) (lane_of i other)) }
-    {
-        Pair {
-            re: self.re.add(other.re),
-            im: self.im.add(other.im),
-        }
-    }
-
-    pub fn sub(self, other: Pair) -> Pair
-        ensures { result ≡ lanes (λ i. difference (lane_of i self) (lane_of i other)) }
-    {
-        Pair {
-            re: self.re.sub(other.re),
-            im: self.im.sub(other.im),
-        }
-    }
-
-    pub fn mul(self, other: Pair) -> Pair
-        ensures { result ≡ lanes (λ i. product (lane_of i self) (lane_of i other)) }
-    {
-        Pair {
-            re: self.re.mul(other.re).sub(self.im.mul(other.im)),
-            im: self.re.mul(other.im).add(self.im.mul(other.re)),
-        }
-    }
-
     pub fn scale(self, factor: Four) -> Pair
         ensures { result ≡ lanes (λ i. scaled (lane_of i self) (number_of i factor)) }
     {
         Pair {
-            re: self.re.mul(factor),
-            im: self.im.mul(factor),
+            re: self.re * factor,
+            im: self.im * factor,
         }
     }
 
@@ -133,14 +159,7 @@ pub fn put(xs: &mut [f64], x: Pair)
     requires { length xs.old ≡ 8 }
     ensures { xs.new ≡ flat x }
 {
-    let re = x.re;
-    let im = x.im;
-    xs[0] = re.a;
-    xs[1] = re.b;
-    xs[2] = re.c;
-    xs[3] = re.d;
-    xs[4] = im.a;
-    xs[5] = im.b;
-    xs[6] = im.c;
-    xs[7] = im.d;
+    xs.copy_from_slice(&[
+        x.re.a, x.re.b, x.re.c, x.re.d, x.im.a, x.im.b, x.im.c, x.im.d,
+    ]);
 }

@@ -48,7 +48,7 @@ fn on_way(desk: &[f64], at: usize, t: f64, held: bool) -> Pair
     if held {
         return from;
     }
-    from.add(Pair::at(desk, at + 32).scale(Four::all(t)))
+    from + Pair::at(desk, at + 32).scale(Four::all(t))
 }
 
 // Both sides of a slot, from the coefficients on the desk to their places there.
@@ -62,8 +62,8 @@ pub fn mix(desk: &mut [f64], t: f64, held: bool, marks: Marks, s: Pair, d: Pair)
     let h12 = taken(marks, on_way(desk, 52, t, held));
     let h21 = taken(marks, on_way(desk, 60, t, held));
     let h22 = taken(marks, on_way(desk, 68, t, held));
-    let left = h11.mul(s).add(h21.mul(d));
-    let right = h12.mul(s).add(h22.mul(d));
+    let left = h11 * s + h21 * d;
+    let right = h12 * s + h22 * d;
     lanes::put(&mut desk[120..128], left);
     lanes::put(&mut desk[128..136], right);
 }

@@ -19,12 +19,6 @@ use Rattle.standard.specs.Numbers.{zero}
 use Rattle.ps_memory.specs.Packed.{packed}
 use Rattle.ps_memory.specs.Place.{head_long, row_long, lines_long, phases_long, lines_at, phases_at, sound_at, numbers, head_image, row_place, row_image, lines_image, small_image, image}
 
--- as many single numbers as there are places
-pub all_set : (vs m : List Float) → length m ≡ length vs → sets m 0 vs ≡ vs
-all_set vs m l =
-    let whole : 0 + length vs ≡ length m = omega arith in
-    sets-eq vs m 0 (omega arith) ∙ ap (λ (t : List Float). vs ++ t) (ap (λ (n : ℕ). drop n m) whole ∙ drop-length m) ∙ append-nil vs
-
 -- ---- the parts of a state
 
 pub row_laid : (r : Row) (m q : List Float) (v : Float) → length m ≡ row_long → v ≡ kept_number r.used → q ≡ packed (length (part 1 17 m)) r.at

@@ -37,12 +37,9 @@ in_half at directions phases current =
     let one : at + 0 ≡ at = omega arith in
     rw (part_at at 2 phases 0 (pos 0) (omega arith), part_at at 2 phases 1 (pos 0) (omega arith), one)
 
--- four indices, as they stand and as they are written anew
+-- four indices as they stand
 pub four_kept : (xs : List ℤ) → length xs ≡ 4 → xs ≡ phase_numbers (ipd_of xs 0) (opd_of xs 0)
 unfolding rows
 four_kept xs long =
     let all : tabulate (λ i. get_or xs i (pos 0)) 4 ≡ phase_numbers (ipd_of xs 0) (opd_of xs 0) = refl in
     sym (copied xs (pos 0)) ∙ ap (tabulate (λ i. get_or xs i (pos 0))) long ∙ all
-
-pub four_written : (xs : List ℤ) (a b c d : ℤ) → length xs ≡ 4 → set (set (set (set xs 0 a) 1 b) 2 c) 3 d ≡ a ∷ b ∷ c ∷ d ∷ []
-four_written xs a b c d long = front_all (front_pair (front_pair (front_none xs) a b (omega arith)) c d (omega arith)) (omega arith)

@@ -23,7 +23,7 @@ type Indices = Kinds<i8>;
 fn natural(index: i32) -> usize
     ensures { result ≡ natural_of index }
 {
-    usize::try_from(index).unwrap_or(0)
+    index.max(0) as usize
 }
 
 fn natural_index(index: i8) -> usize
