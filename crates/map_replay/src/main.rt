@@ -45,6 +45,7 @@ fn holds(record: &[u8; RECORD]) -> bool {
 }
 
 // Reads until the memory is full, the input ends or a read fails, and answers how many bytes came.
+// Kept: a loop of reads, for `read_exact` does not say how many bytes came before the input's end, and records before it count.
 fn read_full(reader: &mut impl Read, bytes: &mut [u8]) -> usize
     ensures { result ≤ length bytes.new }
 {

@@ -1,16 +1,16 @@
 // Chance, by the generator of oracle/README.md.
 
-pub fn step(x: u64) -> u64 {
-    (x % 4294967296 * 1664525 + 1013904223) % 4294967296
+pub fn step(x: u32) -> u32 {
+    x.wrapping_mul(1664525).wrapping_add(1013904223)
 }
 
 // From a seed another one for each number.
-pub fn branch(seed: u64, number: u64) -> u64 {
+pub fn branch(seed: u32, number: u32) -> u32 {
     step(step(step(seed ^ number)))
 }
 
 // What a run draws at a step: where the runs agree the step's own number, elsewhere another one for each run.
-pub fn drawn(x: u64, run: u64, agreed: bool) -> u64 {
+pub fn drawn(x: u32, run: u32, agreed: bool) -> u32 {
     if agreed {
         return x;
     }
@@ -18,6 +18,6 @@ pub fn drawn(x: u64, run: u64, agreed: bool) -> u64 {
 }
 
 // One of the numbers below n.
-pub fn below(x: u64, n: u64) -> u64 {
+pub fn below(x: u32, n: u32) -> u32 {
     if n == 0 { 0 } else { x / 65536 % n }
 }

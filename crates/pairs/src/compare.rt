@@ -1,12 +1,12 @@
 // The numbers of two runs, frame after frame, bit for bit. Each frame has 4,096 places.
-use super::marks;
+use super::marks::Bands;
 
 // One side: how many numbers of the QMF bands that are held are alike, the place of the first that is not, and the QMF bands that have a number which differs.
 #[derive(Clone, Copy)]
 pub struct Compared {
     pub numbers: u64,
-    pub first: usize,
-    pub different: u64,
+    pub first: Option<usize>,
+    pub different: Bands,
 }
 
 // 0 and -0 differ, as their reciprocals do; what is not a number is like nothing.
@@ -17,40 +17,26 @@ fn alike(a: f64, b: f64) -> bool {
     a == b
 }
 
-fn number(numbers: &[f64], at: usize) -> f64 {
-    if at < numbers.len() { numbers[at] } else { 0.0 }
-}
-
-fn counted(before: Compared, at: usize, band: usize, held: bool, same: bool) -> Compared {
-    Compared {
-        numbers: if held && same {
-            std::num::wrapping_add_u64(before.numbers, 1)
-        } else {
-            before.numbers
-        },
-        first: if held && !same && at < before.first {
-            at
-        } else {
-            before.first
-        },
-        different: marks::with(before.different, band, !same),
-    }
-}
-
 // Of each frame the places before an end are written.
-pub fn compare(held: u64, a: &[f64], b: &[f64], end: usize) -> Compared {
+pub fn compare<const N: usize>(held: Bands, a: &[f64; N], b: &[f64; N], end: usize) -> Compared {
     let mut compared = Compared {
         numbers: 0,
-        first: a.len(),
-        different: 0,
+        first: None,
+        different: Bands::NONE,
     };
-    let mut at = 0;
-    while at < a.len() {
+    for (at, (x, y)) in a.iter().zip(b).enumerate() {
         let band = at % 128 / 2;
-        let inside = marks::marked(held, band) && at % 4096 < end;
-        let same = alike(number(a, at), number(b, at));
-        compared = counted(compared, at, band, inside, same);
-        at += 1;
+        let same = alike(*x, *y);
+        if !same {
+            compared.different.insert(band);
+        }
+        if held.has(band) && at % 4096 < end {
+            if same {
+                compared.numbers = compared.numbers.wrapping_add(1);
+            } else if compared.first.is_none() {
+                compared.first = Some(at);
+            }
+        }
     }
     compared
 }

@@ -1,180 +1,127 @@
 // The cue line of a frame of one run: the index of a band is drawn alike in both runs where the band is agreed on.
-use super::{chance, marks, scene};
+use super::runs::Run;
+use super::scene::{KINDS, Kind, Said};
+use super::{chance, scene};
 use layout::Layout;
 
-// Each function puts its text at a place, as far as there is room, and answers the place after it.
-fn put_digit(out: &mut [u8], at: usize, digit: u8) -> usize {
-    if at < out.len() {
-        out[at] = if digit < 10 {
-            b'0' + digit
-        } else {
-            b'a' + digit % 16 - 10
-        };
-        return at + 1;
-    }
-    at
-}
+const HEX: [u8; 16] = *b"0123456789abcdef";
 
-fn put_byte(out: &mut [u8], at: usize, byte: u8) -> usize {
-    let place = put_digit(out, at, byte / 16);
-    put_digit(out, place, byte % 16)
-}
-
-fn put_two(out: &mut [u8], at: usize, first: u8, second: u8) -> usize {
-    let place = put_byte(out, at, first);
-    put_byte(out, place, second)
-}
-
-// The difference of two values of an index, as a signed byte.
-fn put_delta(out: &mut [u8], at: usize, value: u64, base: u64) -> usize {
-    put_byte(out, at, ((256 + value % 32 - base % 32) % 256) as u8)
-}
-
-// Which of the values of an index, from the lowest, is 0.
-fn zero_of(values: u64) -> u64 {
-    if values == 8 { 0 } else { values / 2 }
-}
-
-// A row by frequency (0) has differences from band to band, so that each band gets the value that is drawn for it. A row by time (1) adds what is drawn
-// to the band's own index before.
-fn base_after(time: u8, value: u64, zero: u64) -> u64 {
-    if time == 0 { value } else { zero }
-}
-
-fn put_row(
-    out: &mut [u8],
-    at: usize,
-    count: usize,
-    values: u64,
-    time: u8,
-    bands: u64,
-    run: u64,
-    seed: u64,
-) -> usize {
-    let zero = zero_of(values);
-    let mut place = put_byte(out, at, time);
-    let mut x = seed;
-    let mut base = zero;
-    let mut band = 0;
-    while band < count {
-        let drawn = chance::drawn(x, run, marks::marked(bands, band));
-        let value = chance::below(drawn, values);
-        place = put_delta(out, place, value, base);
-        base = base_after(time, value, zero);
-        x = chance::step(x);
-        band += 1;
-    }
-    place
-}
-
-// The rows of a kind, by frequency and by time in turn.
-fn put_kind(
-    out: &mut [u8],
-    at: usize,
-    count: usize,
-    values: u64,
-    first: u8,
-    envelopes: u8,
-    bands: u64,
-    run: u64,
-    seed: u64,
-) -> usize {
-    let mut place = at;
-    let mut time = first;
-    let mut row = seed;
-    let mut envelope = 0;
-    while envelope < envelopes {
-        place = put_row(out, place, count, values, time, bands, run, row);
-        time = 1 - time % 2;
-        row = chance::branch(row, 1);
-        envelope += 1;
-    }
-    place
-}
-
-// Borders anywhere in the frame and in any order, the same in both runs.
-fn put_borders(out: &mut [u8], at: usize, borders: u8, slots: usize, seed: u64) -> usize {
-    let mut place = at;
-    let mut x = seed;
-    let mut border = 0;
-    while border < borders {
-        place = put_delta(out, place, chance::below(x, slots as u64), 0);
-        x = chance::step(x);
-        border += 1;
-    }
-    place
-}
-
-// The first byte, the modes of 20 or of 34 indices, and the envelopes.
-fn put_head(out: &mut [u8], layout: Layout, frame: u64) -> usize {
-    let mode = match layout {
-        Layout::Bands20 => 1,
-        Layout::Bands34 => 2,
-    };
-    let iid = mode % 3 + scene::line_byte(frame, scene::FINE) % 4;
-    let icc = mode % 3 + scene::line_byte(frame, scene::RB) % 4;
-    let place = put_two(out, 0, scene::line_byte(frame, scene::FLAGS), iid);
-    put_two(out, place, icc, scene::line_byte(frame, scene::ENVELOPES))
+// A line's characters, as far as there is room.
+#[derive(Clone, Copy)]
+pub struct Line {
+    text: [u8; limits::DIGITS],
+    used: usize,
 }
 
 // How many indices a row of a kind has: the lowest bands alone have phases.
-fn count_of(layout: Layout, kind: u8) -> usize {
-    match layout {
-        Layout::Bands20 => if kind < 2 { 20 } else { 11 },
-        Layout::Bands34 => if kind < 2 { 34 } else { 17 },
+fn count_of(layout: Layout, kind: Kind) -> usize {
+    match (layout, kind) {
+        (Layout::Bands20, Kind::Iid | Kind::Icc) => 20,
+        (Layout::Bands20, Kind::Ipd | Kind::Opd) => 11,
+        (Layout::Bands34, Kind::Iid | Kind::Icc) => 34,
+        (Layout::Bands34, Kind::Ipd | Kind::Opd) => 17,
     }
 }
 
-// How many values an index has: IID is kind 0, coarse or fine; then come ICC, IPD and OPD.
-fn values_of(kind: u8, fine: u8) -> u64 {
-    if 0 < kind {
-        return 8;
+// How many values an index has.
+fn values_of(kind: Kind, fine: bool) -> u32 {
+    match kind {
+        Kind::Iid => if fine { 31 } else { 15 },
+        Kind::Icc | Kind::Ipd | Kind::Opd => 8,
     }
-    if fine == 0 { 15 } else { 31 }
 }
 
-// The rows of all kinds. In the odd frames the first goes by time, and starts from a row of the frame before.
-fn put_kinds(
-    out: &mut [u8],
-    at: usize,
-    layout: Layout,
-    frame: u64,
-    bands: u64,
-    run: u64,
-    seed: u64,
-) -> usize {
-    let kinds = scene::line_byte(frame, scene::KINDS);
-    let envelopes = scene::line_byte(frame, scene::ENVELOPES);
-    let fine = scene::line_byte(frame, scene::FINE);
-    let first = (frame % 2) as u8;
-    let mut place = at;
-    let mut row = seed;
-    let mut kind = 0;
-    while kind < kinds {
-        let count = count_of(layout, kind);
+// Which of the values of an index, from the lowest, is 0.
+fn zero_of(values: u32) -> u32 {
+    if values == 8 { 0 } else { values / 2 }
+}
+
+impl Line {
+    pub fn characters(&self) -> &[u8] {
+        &self.text[..self.used.min(limits::DIGITS)]
+    }
+
+    fn put_digit(&mut self, digit: u8) {
+        if let Some(place) = self.text.get_mut(self.used) {
+            *place = HEX[usize::from(digit % 16)];
+            self.used += 1;
+        }
+    }
+
+    fn put_byte(&mut self, byte: u8) {
+        self.put_digit(byte / 16);
+        self.put_digit(byte % 16);
+    }
+
+    // The difference of two values of an index, as a signed byte.
+    fn put_delta(&mut self, value: u32, base: u32) {
+        self.put_byte(((value % 32) as u8).wrapping_sub((base % 32) as u8));
+    }
+
+    // A row by frequency has differences from band to band, so that each band gets the value that is drawn for it. A row by time adds what is drawn to the
+    // band's own index before.
+    fn put_row(&mut self, run: &Run, kind: Kind, fine: bool, by_time: bool, seed: u32) {
         let values = values_of(kind, fine);
-        place = put_kind(out, place, count, values, first, envelopes, bands, run, row);
-        row = chance::branch(row, 2);
-        kind += 1;
+        let mut base = zero_of(values);
+        let mut x = seed;
+        self.put_byte(u8::from(by_time));
+        for band in 0..count_of(run.layout, kind) {
+            let drawn = chance::drawn(x, run.number, run.bands.has(band));
+            let value = chance::below(drawn, values);
+            self.put_delta(value, base);
+            if !by_time {
+                base = value;
+            }
+            x = chance::step(x);
+        }
     }
-    place
+
+    // The rows of all kinds, by frequency and by time in turn. In the odd frames the first of a kind goes by time, and starts from a row of the frame before.
+    fn put_kinds(&mut self, run: &Run, said: Said, frame: u32, seed: u32) {
+        let mut first = seed;
+        for kind in KINDS.iter().take(said.kinds) {
+            let mut row = first;
+            let mut by_time = frame % 2 == 1;
+            for _ in 0..said.envelopes {
+                self.put_row(run, *kind, said.fine, by_time, row);
+                by_time = !by_time;
+                row = chance::branch(row, 1);
+            }
+            first = chance::branch(first, 2);
+        }
+    }
+
+    // Borders anywhere in the frame and in any order, the same in both runs.
+    fn put_borders(&mut self, borders: u8, slots: usize, seed: u32) {
+        let mut x = seed;
+        for _ in 0..borders {
+            self.put_delta(chance::below(x, (slots % 64) as u32), 0);
+            x = chance::step(x);
+        }
+    }
+
+    // The first byte, the modes of 20 or of 34 indices, and the envelopes.
+    fn put_head(&mut self, layout: Layout, said: Said) {
+        let mode = match layout {
+            Layout::Bands20 => 1,
+            Layout::Bands34 => 2,
+        };
+        self.put_byte(said.flags);
+        self.put_byte(if said.fine { mode + 3 } else { mode });
+        self.put_byte(if said.rb { mode + 3 } else { mode });
+        self.put_byte(said.envelopes);
+    }
 }
 
-// A whole line, from the start of `out`.
-pub fn put_line(
-    out: &mut [u8],
-    layout: Layout,
-    frame: u64,
-    slots: usize,
-    bands: u64,
-    run: u64,
-    seed: u64,
-) -> usize {
-    if scene::line_byte(frame, scene::FLAGS) == 0 {
-        return 0;
+pub fn line_of(run: &Run, frame: u32, seed: u32) -> Line {
+    let mut line = Line {
+        text: [0; limits::DIGITS],
+        used: 0,
+    };
+    if let Some(said) = scene::said_in(frame) {
+        line.put_head(run.layout, said);
+        line.put_borders(said.borders, scene::slots_of(run.pair), seed);
+        line.put_kinds(run, said, frame, seed);
     }
-    let head = put_head(out, layout, frame);
-    let borders = scene::line_byte(frame, scene::BORDERS);
-    let place = put_borders(out, head, borders, slots, seed);
-    put_kinds(out, place, layout, frame, bands, run, seed)
+    line
 }

@@ -1,194 +1,177 @@
 // A pair of runs from fresh decoders.
-ghost use Rattle.std.specs.Prelude.{◌≡◌, length};
-
 use super::compare::Compared;
-use super::marks::Columns;
+use super::marks::{Bands, Columns};
 use super::scene::FRAMES;
 use super::{chance, compare, line, marks, scene, sound};
 use layout::Layout;
+use std::fmt;
 
-// The places of all frames of an output, and of both outputs.
-pub const PLACES: usize = 24576;
+// The places of all frames of an output.
+const PLACES: usize = 24576;
 
-pub const BOTH: usize = 49152;
-
-// How many frames of both runs were accepted; of the QMF bands that are held, how many numbers came out alike, and the place of the first that did not, in
-// all left frames and then all right ones; and of both sides, how many QMF bands are left free, and how many of these came out different.
+// One run of a pair, and the stereo bands and QMF bands that its two runs agree on.
 #[derive(Clone, Copy)]
-pub struct Pair {
-    pub accepted: u64,
-    pub numbers: u64,
-    pub first: usize,
-    pub free: u64,
-    pub different: u64,
+pub struct Run {
+    pub layout: Layout,
+    pub pair: u32,
+    // 0 or 1.
+    pub number: u32,
+    pub bands: Bands,
+    pub columns: Bands,
 }
 
-// One frame.
-fn play_frame(
-    memory: &mut [f64],
-    layout: Layout,
-    pair: usize,
-    frame: u64,
-    run: u64,
-    bands: u64,
-    columns: u64,
-    left: &mut [f64],
-    right: &mut [f64],
-) -> u32 {
-    let seed = chance::branch(chance::branch(1, pair as u64), frame);
-    let slots = scene::slots_of(pair);
-    let mut text = [0u8; limits::DIGITS];
-    let used = line::put_line(&mut text, layout, frame, slots, bands, run, seed);
-    // As many rows as a frame of 32 slots reads.
-    let mut input = [0.0; 4864];
-    sound::fill(&mut input, columns, frame, run, seed);
-    let edge = scene::edge_of(pair, frame);
-    let end = limits::least(used, limits::DIGITS);
-    lefasumu::lefasumu_frame(memory, &text[..end], &input, edge, left, right)
+// The outputs of a run.
+#[derive(Clone, Copy)]
+struct Sides {
+    left: [f64; PLACES],
+    right: [f64; PLACES],
 }
 
-// One frame, into its 4,096 places of both outputs.
-fn play_into(
-    memory: &mut [f64],
-    layout: Layout,
-    pair: usize,
-    frame: u64,
-    run: u64,
-    bands: u64,
-    columns: u64,
-    left: &mut [f64],
-    right: &mut [f64],
-) -> u32
-    requires { (length left.old ≡ 24576) × (length right.old ≡ 24576) }
-{
-    let from = (frame % FRAMES * 4096) as usize;
-    let end = from + 128 * scene::slots_of(pair);
-    play_frame(
-        memory,
-        layout,
-        pair,
-        frame,
-        run,
-        bands,
-        columns,
-        &mut left[from..end],
-        &mut right[from..end],
-    )
+#[derive(Clone, Copy, Debug, PartialEq, Eq)]
+pub enum Side {
+    Left,
+    Right,
 }
 
-fn one_more_if(accepted: bool, count: u64) -> u64 {
-    if accepted {
-        std::num::wrapping_add_u64(count, 1)
-    } else {
-        count
+impl fmt::Display for Side {
+    fn fmt<W: fmt::Write>(&self, f: &mut fmt::Formatter<W>) -> fmt::Result {
+        f.write_str(match self {
+            Side::Left => "left",
+            Side::Right => "right",
+        })
     }
 }
 
-// The frames of a run from started memory: how many are accepted.
-fn play_frames(
+// How many numbers came out alike, and of both sides, how many QMF bands are left free, and how many of these came out different.
+#[derive(Clone, Copy)]
+pub struct Counts {
+    numbers: u64,
+    free: u64,
+    different: u64,
+}
+
+impl Counts {
+    pub const NONE: Counts = Counts {
+        numbers: 0,
+        free: 0,
+        different: 0,
+    };
+
+    pub fn plus(self, other: Counts) -> Counts {
+        Counts {
+            numbers: self.numbers.wrapping_add(other.numbers),
+            free: self.free.wrapping_add(other.free),
+            different: self.different.wrapping_add(other.different),
+        }
+    }
+}
+
+impl fmt::Display for Counts {
+    fn fmt<W: fmt::Write>(&self, f: &mut fmt::Formatter<W>) -> fmt::Result {
+        write!(
+            f,
+            "{} numbers alike, {} of {} other QMF bands different",
+            self.numbers, self.different, self.free
+        )
+    }
+}
+
+// How many frames of both runs were accepted; of the QMF bands that are held, how many numbers came out alike, and the side and the place of the first that
+// did not; and how many of the free bands differ.
+#[derive(Clone, Copy)]
+pub struct Pair {
+    pub accepted: u64,
+    pub first: Option<(Side, usize)>,
+    pub counts: Counts,
+}
+
+impl Pair {
+    pub fn all_accepted(self) -> bool {
+        self.accepted == 2 * u64::from(FRAMES)
+    }
+
+    // Every frame is accepted, every number that is held is alike, and most of the QMF bands that are left free differ.
+    pub fn stands(self) -> bool {
+        self.all_accepted() && self.first.is_none() && self.counts.free / 2 < self.counts.different
+    }
+}
+
+fn play_frame(
     memory: &mut [f64],
-    layout: Layout,
-    pair: usize,
-    run: u64,
-    bands: u64,
-    columns: u64,
+    run: &Run,
+    frame: u32,
     left: &mut [f64],
     right: &mut [f64],
-) -> u64
-    requires { (length left.old ≡ 24576) × (length right.old ≡ 24576) }
-{
-    let mut accepted = 0;
-    let mut frame = 0;
-    while frame < FRAMES {
-        let answer = play_into(
-            memory, layout, pair, frame, run, bands, columns, left, right,
-        );
-        accepted = one_more_if(answer == 0, accepted);
-        frame += 1;
+) -> u32 {
+    let seed = chance::branch(chance::branch(1, run.pair), frame);
+    let line = line::line_of(run, frame, seed);
+    // As many rows as a frame of 32 slots reads.
+    let mut input = [0.0; 4864];
+    sound::fill(&mut input, run, frame, seed);
+    let edge = scene::edge_of(run.pair, frame);
+    lefasumu::lefasumu_frame(memory, line.characters(), &input, edge, left, right)
+}
+
+// One run, each frame into its 4,096 places of both outputs: how many of its frames are accepted.
+fn play_run(run: &Run, sides: &mut Sides) -> u64 {
+    let slots = scene::slots_of(run.pair);
+    let mut memory = [0.0; lefasumu::MEMORY];
+    if lefasumu::lefasumu_start(&mut memory, slots) != 0 {
+        return 0;
+    }
+    let mut accepted = 0u64;
+    for frame in 0..FRAMES {
+        let from = 4096 * frame as usize;
+        let end = from + 128 * slots;
+        let left = &mut sides.left[from..end];
+        let right = &mut sides.right[from..end];
+        if play_frame(&mut memory, run, frame, left, right) == 0 {
+            accepted = accepted.wrapping_add(1);
+        }
     }
     accepted
 }
 
-// One run: how many of its frames are accepted.
-fn play_run(
-    layout: Layout,
-    pair: usize,
-    run: u64,
-    bands: u64,
-    columns: u64,
-    left: &mut [f64],
-    right: &mut [f64],
-) -> u64
-    requires { (length left.old ≡ 24576) × (length right.old ≡ 24576) }
-{
-    let mut memory = [0.0; lefasumu::MEMORY];
-    if lefasumu::lefasumu_start(&mut memory, scene::slots_of(pair)) != 0 {
-        return 0;
-    }
-    play_frames(&mut memory, layout, pair, run, bands, columns, left, right)
-}
-
-fn count(set: u64) -> u64 {
-    (u64::count_ones(set) % 128) as u64
-}
-
-fn first_of(left: usize, right: usize) -> usize {
-    if left < PLACES {
-        return left;
-    }
-    PLACES + right % BOTH
-}
-
-fn pair_of(accepted: u64, held: u64, left: Compared, right: Compared) -> Pair {
-    let free = count(!held);
-    let different = count(left.different & !held);
+fn pair_of(accepted: u64, held: Bands, left: Compared, right: Compared) -> Pair {
+    let free = held.others();
     Pair {
-        accepted: accepted,
-        numbers: std::num::wrapping_add_u64(left.numbers, right.numbers),
-        first: first_of(left.first, right.first),
-        free: std::num::wrapping_add_u64(free, free),
-        different: std::num::wrapping_add_u64(different, count(right.different & !held)),
-    }
-}
-
-fn play_both(layout: Layout, pair: usize, bands: u64, columns: Columns) -> Pair {
-    let agreed = columns.agreed;
-    let held = columns.held;
-    let mut left = [0.0; PLACES];
-    let mut right = [0.0; PLACES];
-    let mut other_left = [0.0; PLACES];
-    let mut other_right = [0.0; PLACES];
-    let accepted = std::num::wrapping_add_u64(
-        play_run(layout, pair, 0, bands, agreed, &mut left, &mut right),
-        play_run(
-            layout,
-            pair,
-            1,
-            bands,
-            agreed,
-            &mut other_left,
-            &mut other_right,
-        ),
-    );
-    let end = 128 * scene::slots_of(pair);
-    let lefts = compare::compare(held, &left, &other_left, end);
-    pair_of(
         accepted,
-        held,
-        lefts,
-        compare::compare(held, &right, &other_right, end),
-    )
-}
-
-pub fn play_pair(layout: Layout, pair: usize) -> Pair {
-    let bands = marks::bands_of(layout, pair);
-    play_both(layout, pair, bands, marks::columns_of(layout, bands))
-}
-
-// Every frame is accepted, every number that is held is alike, and most of the QMF bands that are left free differ.
-pub fn stands(pair: Pair) -> bool {
-    if pair.accepted < 2 * FRAMES || pair.first < BOTH {
-        return false;
+        first: left
+            .first
+            .map(|at| (Side::Left, at))
+            .or(right.first.map(|at| (Side::Right, at))),
+        counts: Counts {
+            numbers: left.numbers.wrapping_add(right.numbers),
+            free: free.len().wrapping_mul(2),
+            different: left
+                .different
+                .common(free)
+                .wrapping_add(right.different.common(free)),
+        },
     }
-    pair.free / 2 < pair.different
+}
+
+pub fn play_pair(layout: Layout, pair: u32) -> Pair {
+    let bands = marks::bands_of(layout, pair as usize);
+    let Columns { agreed, held } = marks::columns_of(layout, bands);
+    let run = Run {
+        layout,
+        pair,
+        number: 0,
+        bands,
+        columns: agreed,
+    };
+    let mut sides = Sides {
+        left: [0.0; PLACES],
+        right: [0.0; PLACES],
+    };
+    let mut others = sides;
+    let accepted = play_run(&run, &mut sides).wrapping_add(play_run(
+        &Run { number: 1, ..run },
+        &mut others,
+    ));
+    let end = 128 * scene::slots_of(pair);
+    let lefts = compare::compare(held, &sides.left, &others.left, end);
+    let rights = compare::compare(held, &sides.right, &others.right, end);
+    pair_of(accepted, held, lefts, rights)
 }
