@@ -64,6 +64,7 @@ pub enum Kind {
     Short,
 }
 
+// Kept: each number is matched by hand: a macro may not write items, and a trait of Twenty and ThirtyFour would say each of them three times.
 impl Layout {
     // Stereo bands.
     pub fn bands(self) -> usize

@@ -119,6 +119,7 @@ fn filter_band(layout: Layout, p: usize, band: &[f64; 88], slots: usize, samples
 }
 
 // QMF band p, on its part of the history.
+// Kept: the part is a slice: tried as an array, but `try_from` of a `&mut` leaves open what the list has once the part is back.
 fn split_band(
     layout: Layout,
     p: usize,

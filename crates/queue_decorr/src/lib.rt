@@ -77,6 +77,7 @@ pub fn channel_queues(state: QueueDecorr, k: usize, out: &mut [f64])
 }
 
 // The slots with the layout's table of rotations.
+// Kept: a call for each table: they differ in length, and one call would need a place for either and a slice of it.
 fn through(
     layout: Layout,
     slots: usize,
