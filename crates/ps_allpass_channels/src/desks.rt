@@ -84,21 +84,26 @@ pub fn ways(
     }
 }
 
-// Slot n of four of the split bands' channels, from their runs, into the lanes of desk g.
-fn split_four(samples: &[f64], n: usize, g: usize, desks: &mut [f64; DESKS])
-    requires { (n < 32) × (g < 8) × (256 * g + 256 ≤ length samples.now) }
-    ensures { Put (4 * g) (4 * g + 4) 27 (λ j. j < 29) (λ k. sample_number (sample_at samples.now n k)) desks.old desks.new }
+// Four complex numbers of a list into the lanes of desk g: each STEP places behind the one before it, its im APART places behind its re.
+fn enter_four<const STEP: usize, const APART: usize>(
+    xs: &[f64],
+    from: usize,
+    g: usize,
+    desks: &mut [f64; DESKS],
+)
+    requires { (from + 3 * STEP + APART < length xs.now) × (g < 13) }
+    ensures { Put (4 * g) (4 * g + 4) 27 (λ j. j < 29) (λ k. sample_number (cell APART xs.now (from + STEP * (k - 4 * g))))
+        desks.old desks.new }
 {
-    let from = 256 * g + n;
     let at = 136 * g + 108;
-    let re0 = samples[from];
-    let im0 = samples[from + 32];
-    let re1 = samples[from + 64];
-    let im1 = samples[from + 96];
-    let re2 = samples[from + 128];
-    let im2 = samples[from + 160];
-    let re3 = samples[from + 192];
-    let im3 = samples[from + 224];
+    let re0 = xs[from];
+    let im0 = xs[from + APART];
+    let re1 = xs[from + STEP];
+    let im1 = xs[from + STEP + APART];
+    let re2 = xs[from + 2 * STEP];
+    let im2 = xs[from + 2 * STEP + APART];
+    let re3 = xs[from + 3 * STEP];
+    let im3 = xs[from + 3 * STEP + APART];
     desks[at] = re0;
     desks[at + 1] = re1;
     desks[at + 2] = re2;
@@ -109,13 +114,13 @@ fn split_four(samples: &[f64], n: usize, g: usize, desks: &mut [f64; DESKS])
     desks[at + 7] = im3;
 }
 
-// Of those that fill whole desks.
+// Slot n of the split bands' channels that fill whole desks, from their runs.
 fn split_desks(whole: usize, samples: &[f64], n: usize, desks: &mut [f64; DESKS])
     requires { (whole ≤ 8) × (n < 32) × (256 * whole ≤ length samples.now) }
     ensures { Put 0 (4 * whole) 27 (λ j. j < 29) (λ k. sample_number (sample_at samples.now n k)) desks.old desks.new }
 {
     for g in 0..whole {
-        split_four(samples, n, g, desks);
+        enter_four::<64, 32>(samples, 256 * g + n, g, desks);
     }
 }
 
@@ -162,31 +167,6 @@ fn enter_low(
     }
 }
 
-// Four QMF bands side by side, from a place of the input on, into the lanes of desk g.
-fn enter_four(input: &[f64], from: usize, g: usize, desks: &mut [f64; DESKS])
-    requires { (from + 8 ≤ length input.now) × (g < 13) }
-    ensures { Put (4 * g) (4 * g + 4) 27 (λ j. j < 29) (λ k. sample_number (cell 1 input.now (from + 2 * (k - 4 * g))))
-        desks.old desks.new }
-{
-    let at = 136 * g + 108;
-    let re0 = input[from];
-    let im0 = input[from + 1];
-    let re1 = input[from + 2];
-    let im1 = input[from + 3];
-    let re2 = input[from + 4];
-    let im2 = input[from + 5];
-    let re3 = input[from + 6];
-    let im3 = input[from + 7];
-    desks[at] = re0;
-    desks[at + 1] = re1;
-    desks[at + 2] = re2;
-    desks[at + 3] = re3;
-    desks[at + 4] = im0;
-    desks[at + 5] = im1;
-    desks[at + 6] = im2;
-    desks[at + 7] = im3;
-}
-
 // QMF bands 5 to 24 are the lanes of five desks.
 fn enter_high(first: usize, input: &[f64], n: usize, desks: &mut [f64; DESKS])
     requires { (first ≤ 8) × (n < 32) × (128 * n + 128 ≤ length input.now) }
@@ -194,7 +174,7 @@ fn enter_high(first: usize, input: &[f64], n: usize, desks: &mut [f64; DESKS])
         desks.old desks.new }
 {
     for i in 0..5 {
-        enter_four(input, 128 * n + 8 * i + 10, first + i, desks);
+        enter_four::<2, 1>(input, 128 * n + 8 * i + 10, first + i, desks);
     }
 }
 

@@ -5,7 +5,7 @@
 mod desks;
 mod rows;
 
-ghost use Rattle.std.specs.Prelude.{List, ◌≡◌, ◌+◌, ◌*◌, ◌/◌, ◌%◌, ◌<◌, ◌≤◌, min, ℤ, length};
+ghost use Rattle.std.specs.Prelude.{List, ◌≡◌, ◌+◌, ◌*◌, ◌/◌, ◌%◌, ◌<◌, ◌≤◌, min, ℤ, length, ℕ};
 ghost use Rattle.layout.specs.Numbers.{bands_of, all_pass_of, groups_of, unsplit_from_of};
 ghost use Rattle.limits.specs.Limits as limits;
 ghost use Rattle.lists.specs.Part.{part, put};
@@ -71,15 +71,17 @@ fn begin(
     rows: &[f64],
     count: usize,
     region: usize,
-    old: usize,
+    old: Option<usize>,
     desks: &mut [f64; DESKS],
 )
     requires map_value { (map.now ≡ parameter_map layout) × (limits.course * bands_of layout ≤ length rows.now) }
-    requires region_le_count { (region ≤ count) × (count ≤ limits.envelopes) × (old ≤ count → Wayed layout rows.now old (min (old + 1) count) desks.old) }
+    requires region_le_count { (region ≤ count) × (count ≤ limits.envelopes) × ((e : ℕ) → old ≡ Some e → Wayed layout rows.now e (min (e + 1) count) desks.old) }
     ensures way { Wayed layout rows.now region (min (region + 1) count) desks.new }
     ensures chains { Lies layout chain_on desks.new (desk_of chain_on desks.old) }
 {
-    if region == old {
+    if let Some(there) = old
+        && there == region
+    {
         return;
     }
     desks::ways(layout, map, rows, region, (region + 1).min(count), desks);
@@ -101,12 +103,12 @@ fn run(
 {
     let map = ps_map::parameter_map(layout);
     let count = timing.count.min(limits::ENVELOPES);
-    // No region yet.
-    let mut region = limits::BORDERS;
+    // The region whose coefficients are on the desks.
+    let mut region = None;
     for n in 0..timing.slots {
         let next = ps_stereo_slots::region_in(timing, n);
         begin(layout, &map, lent.rows, count, next, region, desks);
-        region = next;
+        region = Some(next);
         let moment = Moment {
             layout,
             n,

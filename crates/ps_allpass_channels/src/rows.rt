@@ -95,6 +95,7 @@ fn added(desks: &[f64; DESKS], place: usize, from: usize, end: usize) -> Complex
 }
 
 // One side's split bands.
+// Kept: a row is a slice here and below: an array's `try_from` of a `&mut` leaves open what the side has once the row is back.
 fn add_split(layout: Layout, desks: &[f64; DESKS], place: usize, row: &mut [f64])
     requires { (place ≤ 128) × (length row.old ≡ 128) }
     ensures { Rowed (synthesised layout (standing desks.now place)) 0 (split_of layout) row.old row.new }

@@ -83,8 +83,8 @@ pub enum Fault {
     Differs(Difference),
 }
 
-impl From<io::Error> for Fault {
-    fn from(_error: io::Error) -> Fault {
+impl From<std::io::Error> for Fault {
+    fn from(_error: std::io::Error) -> Fault {
         Fault::Cut
     }
 }

@@ -69,7 +69,7 @@ pub fn next(reader: &mut impl Read) -> Piece {
 }
 
 // The rows of the input, as many as are lent.
-pub fn read_rows(reader: &mut impl Read, input: &mut [f64]) -> io::Result<()> {
+pub fn read_rows(reader: &mut impl Read, input: &mut [f64]) -> std::io::Result<()> {
     let (rows, _) = input.as_chunks_mut::<128>();
     for row in rows.iter_mut() {
         let mut bytes = [0u8; 1024];

@@ -1,7 +1,8 @@
 -- `ps_allpass_channels::run` meets its contract: after n turns the frame's first n slots are done, and the desks have its last region's coefficients.
 -- Assumes nothing.
-use mathlib.Core.Path.{◌≡◌, refl, ◌∙◌}
-use Prim.Native.Nat.{◌<◌, min}
+use mathlib.Core.Path.{◌≡◌, refl, subst, ◌∙◌}
+use Prim.Native.Nat.{ℕ, ◌+◌, ◌<◌, min}
+use Rattle.ps_allpass_channels.specs.Desks.{Wayed}
 use borrow.Author.Rules.{rules}
 use native.Mathlib.Omega.{arith}
 use lib.ListN.{length}
@@ -23,7 +24,7 @@ loop-n-init c =
       delays_long = refl;
       left_long = refl;
       right_long = refl;
-      begun = λ h. absurd (omega (arith, c.min-count.ensures));
+      begun = λ e h. absurd (cc);
       chains = λ k u. refl;
       sofar = λ table laid. none a.layout a.timing table a.lent.samples.now a.lent.gains.now a.lent.rows.now a.lent.input.now a.delays.now a.left.now a.right.now;
     }
@@ -78,7 +79,8 @@ loop-n-preserved c =
       delays_long = s.long ∙ l.invariant.delays_long;
       left_long = omega (arith, l.invariant.left_long);
       right_long = omega (arith, l.invariant.right_long);
-      begun = λ h. record { from = λ k u. s.from k u ∙ way.from k u; step = λ k u. s.step k u ∙ way.step k u };
+      begun = λ e h. let same : region ≡ e = cc in
+          subst (λ (r : ℕ). Wayed a.layout a.lent.rows.now r (min (r + 1) count) c.slot.new.desks) same (record { from = λ k u. s.from k u ∙ way.from k u; step = λ k u. s.step k u ∙ way.step k u });
       chains = λ k u. s.chain k u ∙ c.begin.ensures.chains k u ∙ l.invariant.chains k u;
       sofar = λ table laid.
           more a.layout a.timing table a.lent.samples.now a.lent.gains.now a.lent.rows.now a.lent.input.now a.delays.now l.n _ _ _

@@ -1,5 +1,6 @@
 use mathlib.Core.Path.{◌≡◌}
 use mathlib.Core.List.{List}
+use Rattle.std.proofs.Common.{Option, Some}
 use Prim.Native.Nat.{ℕ, ◌+◌, ◌-◌, ◌≤◌, min}
 use lib.IntN.{ℤ}
 use lib.Ieee.{Float}
@@ -15,7 +16,7 @@ use Rattle.ps_allpass_channels.specs.Slots.{Reached}
 use Rattle.ps_allpass_channels.proofs.run.Given as goal
 
 pub record Inv (l : Layout) (timing : Timing) (samples gains rows input desks₀ delays₀ left₀ right₀ : List Float) (map : List ℕ) (count end : ℕ)
-    (desks delays left right : List Float) (region n : ℕ) : Type 0 where
+    (desks delays left right : List Float) (region : Option ℕ) (n : ℕ) : Type 0 where
   pub within : n ≤ end
   pub ends : end ≡ timing.slots
   pub mapped : map ≡ parameter_map l
@@ -24,7 +25,7 @@ pub record Inv (l : Layout) (timing : Timing) (samples gains rows input desks₀
   pub delays_long : length delays ≡ length delays₀
   pub left_long : length left ≡ length left₀
   pub right_long : length right ≡ length right₀
-  pub begun : region ≤ count → Wayed l rows region (min (region + 1) count) desks
+  pub begun : (e : ℕ) → region ≡ Some e → Wayed l rows e (min (e + 1) count) desks
   pub chains : Lies l chain_on desks (desk_of chain_on desks₀)
   pub sofar : (table : List ℤ) → Lies l chain_on desks₀ (chain_from table l) → Reached l timing table samples gains rows input delays₀ n left₀ right₀ delays left right
 

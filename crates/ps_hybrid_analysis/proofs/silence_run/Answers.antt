@@ -1,32 +1,26 @@
--- `ps_hybrid_analysis::silence_run` meets its contract: the fronts of both halves are 0. Assumes nothing.
-use mathlib.Core.Path.{◌≡◌, ap, ◌∙◌}
-use mathlib.Core.List.{List, ◌++◌}
-use Prim.Native.Nat.{◌+◌, ◌-◌, ◌≤◌}
+-- `ps_hybrid_analysis::silence_run` meets its contract: after n turns the first n slots are 0. Assumes nothing.
+use mathlib.Core.Path.{◌≡◌}
 use native.Mathlib.Omega.{arith}
-use borrow.Author.Rules.{rules}
-use lib.Ieee.{Float, nan, binary64, of_bits}
-use lib.ListN.{length, get_or, take, drop, replicate, length-append, length-drop, length-replicate, get_or-replicate}
-use lib.Seq.{length-take-le}
-use Rattle.lists.specs.Part.{part}
-use Rattle.lists.proofs.Parts.{part_length}
-use Rattle.standard.specs.Numbers.{nought}
+use lib.ListN.{length-set}
+use Rattle.planar.proofs.Cells.{by_parts}
 use Rattle.standard.proofs.Literals.{zero_is}
-use Rattle.ps_hybrid_analysis.proofs.Pasted.{pasted}
+use Rattle.ps_hybrid_analysis.proofs.Runs.{filled_none, filled_more, filled_planar}
 use Rattle.ps_hybrid_analysis.proofs.silence_run.Goals as goal
+
+pub loop-n-init : goal.loop-n-init
+loop-n-init c = record { within = omega arith; filled = filled_none _ _ _ }
+
+pub bounds-run-n-in-loop-n : goal.bounds-run-n-in-loop-n
+bounds-run-n-in-loop-n c = simp length-set (omega (arith, c.loop-n.invariant.filled.long))
+
+pub loop-n-preserved : goal.loop-n-preserved
+loop-n-preserved c =
+    record { within = omega arith; filled = filled_more c.loop-n.invariant.filled _ (by_parts zero_is zero_is) (omega arith) (omega arith) }
+
+pub shape_of-run : goal.shape_of-run
+shape_of-run c = c.loop-n.invariant.filled.long
 
 pub returns : goal.returns
 returns c =
-    let slots = c.args.slots in
-    let run = c.args.run.now in
-    let z : Float = of_bits binary64 0 in
-    let width : 32 + slots - 32 ≡ slots = omega arith in
-    let first : length (take slots run) ≡ slots = length-take-le slots run (omega (arith, c.requires)) in
-    let re : c.fill.new.self ≡ replicate (length (take slots run)) z = search rules in
-    let room : 32 + slots ≤ length (c.fill.new.self ++ drop slots run) = simp (length-append, length-drop) (omega (arith, c.requires, c.fill.ensures.len, first)) in
-    let second : length (part 32 (32 + slots - 32) (c.fill.new.self ++ drop slots run)) ≡ slots = rw width (part_length 32 slots (c.fill.new.self ++ drop slots run) room) in
-    let im : c.fill-2.new.self ≡ replicate (length (part 32 (32 + slots - 32) (c.fill.new.self ++ drop slots run))) z = search rules in
-    rw width
-    (pasted 32 slots (λ n. nought) run c.fill.new.self c.fill-2.new.self c.requires.1 c.requires.0
-    (ap length re ∙ length-replicate _ _ ∙ first) (ap length im ∙ length-replicate _ _ ∙ second)
-    (λ i u. ap (λ (xs : List Float). get_or xs i nan) re ∙ get_or-replicate _ i z nan (omega (arith, first)) ∙ zero_is)
-    (λ i u. ap (λ (xs : List Float). get_or xs i nan) im ∙ get_or-replicate _ i z nan (omega (arith, second)) ∙ zero_is))
+    let all : c.loop-n.n ≡ c.args.slots = omega arith in
+    rw all at (filled_planar c.loop-n.invariant.filled c.requires.0)
