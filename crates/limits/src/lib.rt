@@ -1,8 +1,8 @@
 // How large a frame and its line can be: the numbers that document 01 fixes and those that follow from them, once for the code here and once for the
-// definitions in specs/Limits, held together by `all`. Beside them the small functions that cut a number to a limit.
+// definitions in specs/Limits, held together by `all`.
 #![tactic(auto)]
 
-ghost use Rattle.std.specs.Prelude.{◌≡◌, [], ◌∷◌, ◌-◌, min};
+ghost use Rattle.std.specs.Prelude.{◌≡◌, [], ◌∷◌};
 ghost use Rattle.limits.specs.Limits as limits;
 
 // Envelopes of a frame.
@@ -27,25 +27,4 @@ pub fn all() -> [usize; 7]
     [
         ENVELOPES, BYTES, DIGITS, BORDERS, COURSE, MATRICES, FRACTIONS,
     ]
-}
-
-// The smaller of two numbers: one cut to a limit.
-pub fn least(a: usize, b: usize) -> usize
-    ensures { result ≡ min a b }
-{
-    if a < b { a } else { b }
-}
-
-// How far one number lies above another, 0 where it does not.
-pub fn above(a: usize, b: usize) -> usize
-    ensures { result ≡ a - b }
-{
-    if b < a { a - b } else { 0 }
-}
-
-// A byte as a place.
-pub fn wide(x: u8) -> usize
-    ensures { result ≡ x }
-{
-    x as usize
 }

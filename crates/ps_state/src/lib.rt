@@ -1,9 +1,7 @@
 // The carried state of a decoder (source document 004), fresh and made ready for a frame.
 #![tactic(auto)]
 
-ghost use Rattle.std.specs.Prelude.{◌≡◌, length, replicate};
-ghost use Rattle.standard.specs.Core.{same_layout};
-ghost use Rattle.standard.specs.Numbers.{zero};
+ghost use Rattle.std.specs.Prelude.{◌≡◌};
 ghost use Rattle.ps_state.specs.State.{fresh_decoder, carried_of, sound_of, decorr_in, decoder_in, lent};
 ghost use Rattle.ps_state.specs.Ready.{switched_from, cleared_place, ready_in};
 
@@ -141,20 +139,6 @@ pub fn together(carried: PsCarried, sound: &[f64; SOUND]) -> PsDecoder
 }
 
 // ---- before a frame
-
-// Whether two layouts are one.
-pub fn same(a: Layout, b: Layout) -> bool
-    ensures { result ≡ same_layout a b }
-{
-    a == b
-}
-
-// No sound.
-pub fn silence(xs: &mut [f64])
-    ensures { xs.new ≡ replicate (length xs.old) zero }
-{
-    xs.fill(0.0);
-}
 
 // A change of layout resets the hybrid history and the whole de-correlator, and remaps the held coefficients.
 fn switched(carried: PsCarried, layout: Layout, sound: &mut [f64; SOUND]) -> PsCarried
