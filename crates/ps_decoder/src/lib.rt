@@ -9,36 +9,32 @@ ghost use Rattle.borders.specs.Borders.{slots_of};
 ghost use Rattle.calls.specs.Call.{played};
 ghost use Rattle.ps_data.specs.Indices.{layout_in};
 ghost use Rattle.ps_state.specs.Ready.{readied};
-ghost use Rattle.ps_state.specs.State.{decoder_in, playing_of, sound_long};
+ghost use Rattle.ps_state.specs.State.{decoder_in, playing_of};
 ghost use Rattle.ps_decoder.specs.Frame.{call_of, answered, answered_whole, played_by, returned, returned_by};
 ghost use Rattle.ps_decoder.specs.Sound.{Sounded};
 
 use answer::Answer;
-use cue::Header;
 use ps_data::Resolved;
-use ps_state::{PsCarried, PsDecoder};
+use ps_state::{PsCarried, PsDecoder, SOUND};
 
 // An accepted frame, whose input is long enough.
 fn play(
     carried: PsCarried,
-    sound: &mut [f64],
-    header: Header,
+    sound: &mut [f64; SOUND],
     resolved: Resolved,
     input: &[f64],
     edge: usize,
     left: &mut [f64],
     right: &mut [f64],
 ) -> PsCarried
-    requires { (length sound.old ≡ sound_long) × (128 * (slots_of carried.asked + 6) ≤ length input.now) }
-    ensures sounded { Sounded (readied (layout_in carried.layout header) edge (decoder_in carried sound.old))
-        header resolved input.now left.old right.old
+    requires { 128 * (slots_of carried.asked + 6) ≤ length input.now }
+    ensures { Sounded (readied (layout_in carried.layout resolved.header) edge (decoder_in carried sound.old))
+        resolved.header resolved input.now left.old right.old
         (decoder_in result sound.new) left.new right.new }
-    ensures long { length sound.new ≡ sound_long }
 {
-    let old = carried.layout;
-    let layout = ps_data::layout_in(old, header);
+    let layout = ps_data::layout_in(carried.layout, resolved.header);
     let ready = ps_state::ready(carried, layout, edge, sound);
-    sound::sound(ready, sound, header, resolved, input, left, right)
+    sound::sound(ready, sound, resolved, input, left, right)
 }
 
 // A frame: a cue line, the input's QMF rows, the spectrum edge, and the two outputs. What is small in the state goes by value and comes back once the frame is
@@ -57,15 +53,14 @@ pub fn lent_frame(
         ≡ returned_by carried sound.old (call_of line.now input.now edge left.old right.old) }
     ensures refused { IfErr result (λ a. 0 < number_of a) }
 {
-    if sound.len() != ps_state::SOUND {
+    let Some(sound) = sound.as_mut_array() else {
         return Err(Answer::Buffers);
-    }
+    };
     let read = ps_data::resolve(carried.lines, line);
     let Ok(resolved) = read else {
         return Err(cue::answer_of(read));
     };
-    let header = resolved.header;
-    let of_line = ps_data::read_answer(header, carried.lines.configured);
+    let of_line = ps_data::read_answer(resolved.header, carried.lines.configured);
     let Answer::Done = of_line else {
         return Err(of_line);
     };
@@ -73,7 +68,7 @@ pub fn lent_frame(
     let Answer::Done = of_input else {
         return Err(of_input);
     };
-    let next = play(carried, sound, header, resolved, input, edge, left, right);
+    let next = play(carried, sound, resolved, input, edge, left, right);
     Ok(next)
 }
 

@@ -1,7 +1,7 @@
 // The sound of an accepted frame, stage by stage, from a state that is ready for it.
 ghost use Rattle.std.specs.Prelude.{◌≡◌, ◌+◌, ◌*◌, ◌≤◌, length};
 ghost use Rattle.borders.specs.Borders.{slots_of};
-ghost use Rattle.ps_state.specs.State.{decoder_in, sound_long};
+ghost use Rattle.ps_state.specs.State.{decoder_in};
 ghost use Rattle.ps_stereo_borders.specs.Borders as borders;
 ghost use Rattle.ps_decoder.specs.Sound.{directions_of, Staged, Sounded};
 
@@ -9,7 +9,7 @@ use answer::Answer;
 use cue::Header;
 use layout::Layout;
 use ps_data::{PsIndices, Resolved};
-use ps_state::PsCarried;
+use ps_state::{DELAYS, DETECTORS, MATRICES, PLAIN, PsCarried, SOUND};
 use ps_stereo_slots::Timing;
 
 // The coefficients at the borders. The table of directions is there in a frame with phase alone.
@@ -40,21 +40,20 @@ fn stages(
     timing: Timing,
     rows: &[f64],
     input: &[f64],
-    sound: &mut [f64],
+    sound: &mut [f64; SOUND],
     left: &mut [f64],
     right: &mut [f64],
 )
-    requires { (slots_of timing.slots ≡ timing.slots) × (128 * (timing.slots + 6) ≤ length input.now) × (length sound.old ≡ sound_long) }
-    ensures staged { Staged (decoder_in carried sound.old) timing rows.now input.now left.old right.old
+    requires { (slots_of timing.slots ≡ timing.slots) × (128 * (timing.slots + 6) ≤ length input.now) }
+    ensures { Staged (decoder_in carried sound.old) timing rows.now input.now left.old right.old
         (decoder_in carried sound.new) left.new right.new }
-    ensures long { length sound.new ≡ sound_long }
 {
     let layout = carried.layout;
     let mut samples = [0.0; 2048];
     let analysed = ps_hybrid_analysis::analyse(
         layout,
         timing.slots,
-        &mut sound[0..ps_state::DELAYS],
+        &mut sound[0..DELAYS],
         input,
         &mut samples,
     );
@@ -64,7 +63,7 @@ fn stages(
     let mut gains = [0.0; 1088];
     ps_decorr_transient::duck(
         layout,
-        &mut sound[ps_state::DETECTORS..ps_state::MATRICES],
+        &mut sound[DETECTORS..MATRICES],
         &samples,
         input,
         timing.slots,
@@ -78,7 +77,7 @@ fn stages(
         &gains,
         rows,
         input,
-        &mut sound[ps_state::DELAYS..ps_state::PLAIN],
+        &mut sound[DELAYS..PLAIN],
         left,
         right,
     );
@@ -88,7 +87,7 @@ fn stages(
         input,
         &gains,
         rows,
-        &mut sound[ps_state::PLAIN..ps_state::DETECTORS],
+        &mut sound[PLAIN..DETECTORS],
         left,
         right,
     );
@@ -97,48 +96,42 @@ fn stages(
 // From a state that is ready, whose sound is lent, and an input that is long enough.
 pub fn sound(
     carried: PsCarried,
-    sound: &mut [f64],
-    header: Header,
+    sound: &mut [f64; SOUND],
     resolved: Resolved,
     input: &[f64],
     left: &mut [f64],
     right: &mut [f64],
 ) -> PsCarried
-    requires { (length sound.old ≡ sound_long) × (128 * (slots_of carried.asked + 6) ≤ length input.now) }
-    ensures sounded { Sounded (decoder_in carried sound.old) header resolved input.now left.old right.old
+    requires { 128 * (slots_of carried.asked + 6) ≤ length input.now }
+    ensures { Sounded (decoder_in carried sound.old) resolved.header resolved input.now left.old right.old
         (decoder_in result sound.new) left.new right.new }
-    ensures long { length sound.new ≡ sound_long }
 {
-    let layout = carried.layout;
-    let indices = resolved.indices;
+    let header = resolved.header;
     let mut phases = carried.phases;
     let mut rows = [0.0; limits::MATRICES];
     mixed(
-        layout,
+        carried.layout,
         header,
-        indices,
-        &mut sound[ps_state::MATRICES..ps_state::SOUND],
+        resolved.indices,
+        &mut sound[MATRICES..SOUND],
         &mut phases,
         &mut rows,
     );
     let slots = borders::slots(carried.asked);
-    let envelopes = header.envelopes as usize;
-    let positions = resolved.positions;
-    let borders = borders::borders(carried.asked, header.variable, envelopes, positions);
+    let count = usize::from(header.envelopes);
+    let borders = borders::borders(carried.asked, header.variable, count, resolved.positions);
     let timing = Timing {
-        borders: borders,
-        count: envelopes,
-        slots: slots,
+        borders,
+        count,
+        slots,
         turn: carried.turn,
     };
     stages(carried, timing, &rows, input, sound, left, right);
-    let lines = resolved.lines;
     PsCarried {
-        asked: carried.asked,
-        layout: layout,
         cued: header.cued,
-        lines: lines,
-        phases: phases,
+        lines: resolved.lines,
+        phases,
         turn: (carried.turn % 420 + slots) % 420,
+        ..carried
     }
 }

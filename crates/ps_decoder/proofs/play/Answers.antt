@@ -1,5 +1,6 @@
 -- `ps_decoder::play` meets its contract: the stages from the state made ready. Assumes nothing.
 use mathlib.Core.List.{List}
+use native.Mathlib.Omega.{arith}
 use mathlib.Core.Path.{◌≡◌, ap, subst, ◌∙◌}
 use lib.Ieee.{Float}
 use Rattle.cue.specs.declared.Header.{Header}
@@ -34,14 +35,11 @@ made_ready k h edge sound long after new_sound l is made =
 pub sound-requires : goal.sound-requires
 sound-requires c =
     let a = c.args in
-    let made = made_ready a.carried a.header a.edge a.sound.now c.requires.0 c.ready-ready.result c.ready-ready.new.sound c.layout_in-layout.result c.layout_in-layout.ensures c.ready-ready.ensures in
+    let made = made_ready a.carried a.resolved.header a.edge a.sound.now (omega arith) c.ready-ready.result c.ready-ready.new.sound c.layout_in-layout.result c.layout_in-layout.ensures c.ready-ready.ensures in
     let asked = ap (λ (d : PsDecoder). d.asked) made ∙ readied_asked _ _ _ in
-    (c.ready-ready.auto.sound ∙ c.requires.0, rw asked c.requires.1)
+    rw asked c.requires
 
 pub returns : goal.returns
 returns c =
     let a = c.args in
-    record {
-      sounded = sounded_from (made_ready a.carried a.header a.edge a.sound.now c.requires.0 c.ready-ready.result c.ready-ready.new.sound c.layout_in-layout.result c.layout_in-layout.ensures c.ready-ready.ensures) c.sound.ensures.sounded;
-      long = c.sound.ensures.long;
-    }
+    sounded_from (made_ready a.carried a.resolved.header a.edge a.sound.now (omega arith) c.ready-ready.result c.ready-ready.new.sound c.layout_in-layout.result c.layout_in-layout.ensures c.ready-ready.ensures) c.sound.ensures

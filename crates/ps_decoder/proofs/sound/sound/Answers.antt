@@ -2,6 +2,7 @@
 use mathlib.Core.Path.{◌≡◌, ap, ◌∙◌}
 use Prim.Native.Nat.{ℕ, ◌+◌, ◌%◌}
 use native.Mathlib.Nat.{mod-add-mod}
+use native.Mathlib.Omega.{arith}
 use Rattle.ps_state.specs.declared.PsDecoder.{PsDecoder}
 use Rattle.ps_state.specs.State.{decoder_in}
 use Rattle.ps_decoder.proofs.Assembled.{Timed, remade_in, left_is, right_is, state_is}
@@ -16,23 +17,20 @@ returns c =
     let a = c.args in
     let s : PsDecoder = decoder_in a.carried a.sound.now in
     let mixed = c.mixed.ensures in
-    let timed : Timed s a.header a.resolved.indices a.resolved.positions a.input.now a.left.now a.right.now _ _ _ _ _
+    let timed : Timed s a.resolved.header a.resolved.indices a.resolved.positions a.input.now a.left.now a.right.now _ _ _ _ _
     = record {
       slots_are = c.slots-slots.ensures;
       rows_are = mixed.rows;
       matrices_are = mixed.matrices;
       phases_are = mixed.phases;
-      places_are = c.borders-borders.ensures;
+      places_are = rw c.from-count.ensures at c.borders-borders.ensures;
     } in
-    let made = remade_in a.carried a.sound.now c.mixed.new.matrices c.requires.0 c.mixed.auto.matrices in
-    let after = c.stages.ensures.staged in
+    let made = remade_in a.carried a.sound.now c.mixed.new.matrices (omega arith) c.mixed.auto.matrices in
+    let after = rw c.from-count.ensures at c.stages.ensures in
     record {
-      sounded = record {
-        state =
-            state_is s a.header a.resolved.indices a.resolved.positions a.input.now a.left.now a.right.now timed made after a.resolved.lines _
-            (turned a.carried.turn _ _ c.slots-slots.ensures);
-        left_rows = left_is s a.header a.resolved.indices a.resolved.positions a.input.now a.left.now a.right.now timed made after;
-        right_rows = right_is s a.header a.resolved.indices a.resolved.positions a.input.now a.left.now a.right.now timed made after;
-      };
-      long = c.stages.ensures.long;
+      state =
+          state_is s a.resolved.header a.resolved.indices a.resolved.positions a.input.now a.left.now a.right.now timed made after a.resolved.lines _
+          (turned a.carried.turn _ _ c.slots-slots.ensures);
+      left_rows = left_is s a.resolved.header a.resolved.indices a.resolved.positions a.input.now a.left.now a.right.now timed made after;
+      right_rows = right_is s a.resolved.header a.resolved.indices a.resolved.positions a.input.now a.left.now a.right.now timed made after;
     }

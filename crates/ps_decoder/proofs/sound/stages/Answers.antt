@@ -13,8 +13,8 @@ use Rattle.answer.specs.declared.Answer.TheVariants.{Done, Buffers}
 use Rattle.borders.specs.Borders.{slots_of}
 use Rattle.lists.specs.Part.{part, put}
 use Rattle.lists.proofs.Parts.{part_length}
-use Rattle.ps_state.specs.State.{delays_at, plain_at, detectors_at}
-use Rattle.ps_decoder.proofs.Assembled.{blank, blank_long, Given, ended_long, staged}
+use Rattle.ps_state.specs.State.{delays_at, detectors_at}
+use Rattle.ps_decoder.proofs.Assembled.{blank, blank_long, Given, staged}
 use Rattle.ps_decoder.proofs.Slots.{analysis_room}
 use Rattle.ps_decoder.proofs.sound.stages.Goals as goal
 
@@ -24,7 +24,7 @@ returns-in_default c =
     let a = c.args in
     let there : leb (128 * (slots_of a.timing.slots + 6)) (length a.input.now) ≡ true = rw c.requires.0 (le-leb (128 * (a.timing.slots + 6)) (length a.input.now) c.requires.1) in
     let room = analysis_room a.carried.layout (part 0 60 a.sound.now) a.input.now (blank 2048) (slots_of a.timing.slots) there
-    (part_length 0 60 a.sound.now (omega (arith, c.requires.2))) (blank_long 2048) in
+    (part_length 0 60 a.sound.now (omega arith)) (blank_long 2048) in
     let done : c.analyse-analysed.result ≡ Done = c.analyse-analysed.ensures.answer ∙ ap (λ (t : Bool). cond t Done Buffers) room in
     absurd (c.in_default.not-Done done)
 
@@ -44,18 +44,7 @@ slice_bounds-delay_channels-end-2 c =
       arith,
       passed_long c.args.sound.now c.analyse-analysed.new.history c.duck.new.detectors c.allpass_channels.new.delays
           c.analyse-analysed.auto.history c.duck.auto.detectors c.allpass_channels.auto.delays,
-      c.requires.2,
     )
-
-pub shape_of-sound : goal.shape_of-sound
-shape_of-sound c =
-    let sound = c.args.sound.now in
-    let history = c.analyse-analysed.new.history in
-    let detectors = c.duck.new.detectors in
-    let delays = c.allpass_channels.new.delays in
-    same_len_mid plain_at 394 (put delays_at 1456 (put detectors_at 102 (put 0 60 sound history) detectors) delays) c.delay_channels.new.plain
-    c.delay_channels.auto.plain
-    ∙ passed_long sound history detectors delays c.analyse-analysed.auto.history c.duck.auto.detectors c.allpass_channels.auto.delays
 
 pub shape_of-left : goal.shape_of-left
 shape_of-left c = c.delay_channels.auto.left ∙ c.allpass_channels.auto.left
@@ -74,7 +63,7 @@ returns c =
     let plain = c.delay_channels.new.plain in
     let given : Given a.carried a.timing a.rows.now a.input.now a.sound.now a.left.now a.right.now history detectors delays plain _ _ _ _ _ _
     = record {
-      long = c.requires.2;
+      long = omega arith;
       clamped = c.requires.0;
       history_kept = c.analyse-analysed.auto.history;
       detectors_kept = c.duck.auto.detectors;
@@ -91,7 +80,4 @@ returns c =
       right_is = high.right;
       plain_is = high.plain;
     } in
-    record {
-      staged = staged a.carried a.timing a.rows.now a.input.now a.sound.now a.left.now a.right.now history detectors delays plain given;
-      long = ended_long a.carried a.timing a.rows.now a.input.now a.sound.now a.left.now a.right.now history detectors delays plain given;
-    }
+    staged a.carried a.timing a.rows.now a.input.now a.sound.now a.left.now a.right.now history detectors delays plain given
