@@ -90,7 +90,8 @@ pub fn first_bad_head(bytes: &[u8; limits::BYTES]) -> Option<usize>
     ensures { result ≡ found bytes.now head_checks }
 {
     first_over(bytes, 0, 1, 1, 15)
-        .or(first_over(bytes, 1, 1, 2, 5))
+        .or(first_over(bytes, 1, 1, 1, 5))
+        .or(first_over(bytes, 2, 1, 1, 5))
         .or(first_over(bytes, 3, 1, 1, limits::ENVELOPES as u8))
 }
 

@@ -31,6 +31,26 @@ fn hold(room: &mut [u8], count: usize, part: &[u8])
     room[place..place + size].copy_from_slice(&part[..size]);
 }
 
+// Takes the characters of a piece that are of a line, whose first characters lie in lent room of any length, and answers what comes behind its newline,
+// where there is one.
+pub fn step<'a>(room: &mut [u8], count: &mut u64, piece: &'a [u8]) -> Option<&'a [u8]>
+    ensures { stepped (option_map (λ x. x.now) result) room.new count.new ≡ step_of room.old count.old piece.now }
+{
+    let size = before_newline(piece);
+    let (part, rest) = piece.split_at(size);
+    hold(room, *count as usize, part);
+    *count = count.saturating_add(size as u64);
+    rest.get(1..)
+}
+
+// What is held of a line: its first characters.
+pub fn held(room: &[u8], count: u64) -> &[u8]
+    ensures { result.now ≡ take count room.now }
+{
+    let end = (count as usize).min(room.len());
+    &room[..end]
+}
+
 impl<const N: usize> Line<N> {
     // A line that has no character yet.
     pub fn new() -> Self
@@ -47,19 +67,14 @@ impl<const N: usize> Line<N> {
     pub fn held(&self) -> &[u8]
         ensures { result.now ≡ take self.now.count self.now.room }
     {
-        let end = (self.count as usize).min(N);
-        &self.room[..end]
+        held(&self.room, self.count)
     }
 
     // Takes the characters of a piece that are of the line, and answers what comes behind its newline, where there is one.
     pub fn take<'a>(&mut self, piece: &'a [u8]) -> Option<&'a [u8]>
         ensures { stepped (option_map (λ x. x.now) result) self.new.room self.new.count ≡ step_of self.old.room self.old.count piece.now }
     {
-        let size = before_newline(piece);
-        let (part, rest) = piece.split_at(size);
-        hold(&mut self.room, self.count as usize, part);
-        self.count = self.count.saturating_add(size as u64);
-        rest.get(1..)
+        step(&mut self.room, &mut self.count, piece)
     }
 
     // Takes a piece of the text: `end` is handed each line that ends in it, and the line is then the one that the piece leaves begun.
