@@ -58,6 +58,7 @@ pub fn no_rows() -> Rows
 }
 
 // The byte at a place, 0 past the end.
+// Kept: a name for the library's look-up, which two places here ask; float_bytes, which has it too, reads files and is no crate of lines.
 fn byte_at(bytes: &[u8], place: usize) -> u8
     ensures { result ≡ get_or bytes.now place 0 }
 {
