@@ -87,13 +87,10 @@ pub fn coefficients(
     ensures rows { rows.new ≡ rows_after layout header indices directions.now matrices.old phases.old rows.old }
 {
     let bands = layout.bands();
-    if matrices.len() < 8 * bands {
-        return;
-    }
-    if phases.len() < 4 * bands {
-        return;
-    }
-    if rows.len() < limits::COURSE * bands {
+    if matrices.len() < 8 * bands
+        || phases.len() < 4 * bands
+        || rows.len() < limits::COURSE * bands
+    {
         return;
     }
     copy(bands, matrices, 8, 0, rows, limits::COURSE);

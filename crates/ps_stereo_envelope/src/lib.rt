@@ -184,13 +184,7 @@ pub fn envelope(
     ensures rows { rows.new ≡ rows_after coefficients.now directions.now layout modes cues phases.old e rows.old }
 {
     let bands = layout.bands();
-    if limits::ENVELOPES <= e {
-        return;
-    }
-    if phases.len() < 4 * bands {
-        return;
-    }
-    if rows.len() < limits::COURSE * bands {
+    if limits::ENVELOPES <= e || phases.len() < 4 * bands || rows.len() < limits::COURSE * bands {
         return;
     }
     let tables = Tables {
