@@ -82,22 +82,13 @@ pub fn delay_channels(
     let within = timing.slots.min(32);
     let needed = 128 * within;
     let bands = layout.bands();
-    if left.len() != needed {
-        return;
-    }
-    if right.len() != needed {
-        return;
-    }
-    if input.len() < needed {
-        return;
-    }
-    if gains.len() < 32 * bands {
-        return;
-    }
-    if rows.len() < limits::COURSE * bands {
-        return;
-    }
-    if plain.len() != 394 {
+    if left.len() != needed
+        || right.len() != needed
+        || input.len() < needed
+        || gains.len() < 32 * bands
+        || rows.len() < limits::COURSE * bands
+        || plain.len() != 394
+    {
         return;
     }
     let cut = Timing {
