@@ -23,7 +23,7 @@ type Indices = Kinds<i8>;
 fn natural(index: i32) -> usize
     ensures { result ≡ natural_of index }
 {
-    index.max(0) as usize
+    usize::try_from(index).unwrap_or(0)
 }
 
 fn natural_index(index: i8) -> usize
@@ -170,6 +170,7 @@ fn each(tables: Tables, border: Border, phases: &mut [i8], rows: &mut [f64])
 
 // Envelope e of a frame, from lent tables of coefficients and directions. Nothing changes where the phase indices or the rows have no room for the
 // layout's bands.
+// Kept: eight parameters, (a): a public function keeps its parameters and its clauses.
 pub fn envelope(
     coefficients: &[i64; 2944],
     directions: &[i64],
