@@ -16,6 +16,7 @@ ghost use Rattle.ps_delay_channels.specs.Spans.{Frame};
 
 use layout::Layout;
 use ps_stereo_slots::Timing;
+use rows::Lent;
 use span::Common;
 
 // What every channel takes is made once: the fractions, room for a band's coefficients, and where the ring's oldest row stands. Then both delays, and the
@@ -23,20 +24,18 @@ use span::Common;
 fn frame(
     layout: Layout,
     timing: Timing,
-    input: &[f64],
-    gains: &[f64],
-    rows: &[f64],
+    lent: Lent,
     plain: &mut [f64],
     left: &mut [f64],
     right: &mut [f64],
 )
-    requires frame { Frame timing.slots input.now left.old right.old × (length plain.old ≡ 394) }
-    requires layout_in_bounds { (32 * bands_of layout ≤ length gains.now) × (limits.course * bands_of layout ≤ length rows.now) }
-    ensures left { left.new ≡ side_rows layout timing input.now gains.now rows.now plain.old left_of timing.slots left.old }
-    ensures right { right.new ≡ side_rows layout timing input.now gains.now rows.now plain.old right_of timing.slots right.old }
+    requires frame { Frame timing.slots lent.input.now left.old right.old × (length plain.old ≡ 394) }
+    requires layout_in_bounds { (32 * bands_of layout ≤ length lent.gains.now) × (limits.course * bands_of layout ≤ length lent.rows.now) }
+    ensures left { left.new ≡ side_rows layout timing lent.entry.input.now lent.entry.gains.now lent.entry.rows.now plain.old left_of timing.slots left.old }
+    ensures right { right.new ≡ side_rows layout timing lent.entry.input.now lent.entry.gains.now lent.entry.rows.now plain.old right_of timing.slots right.old }
     ensures plain { plain.new ≡ plain_of (timing.turn + timing.slots)
-        (λ j. past_then layout timing input.now gains.now rows.now plain.old (all_pass_of layout + j) timing.slots)
-        (λ j. past_then layout timing input.now gains.now rows.now plain.old (short_delay_of layout + j) timing.slots) }
+        (λ j. past_then layout timing lent.entry.input.now lent.entry.gains.now lent.entry.rows.now plain.old (all_pass_of layout + j) timing.slots)
+        (λ j. past_then layout timing lent.entry.input.now lent.entry.gains.now lent.entry.rows.now plain.old (short_delay_of layout + j) timing.slots) }
 {
     let mut fractions = [0.0; limits::FRACTIONS];
     let mut runs = [0.0; ps_stereo_slots::RUNS];
@@ -46,44 +45,27 @@ fn frame(
     let long = Common {
         layout,
         timing,
+        fractions: &fractions,
         delay: span::delay_at(layout, longs, position),
+        before: &plain[0..336],
     };
-    span::each(
-        long,
-        longs,
-        &fractions,
-        input,
-        gains,
-        rows,
-        &plain[0..336],
-        &mut runs,
-        left,
-        right,
-    );
+    span::each(long, longs, lent, &mut runs, left, right);
     let shorts = layout.short_delay();
     let short = Common {
         layout,
         timing,
+        fractions: &fractions,
         delay: span::delay_at(layout, shorts, position),
+        before: &plain[336..394],
     };
-    span::each(
-        short,
-        shorts,
-        &fractions,
-        input,
-        gains,
-        rows,
-        &plain[336..394],
-        &mut runs,
-        left,
-        right,
-    );
-    memory::keep_long(input, position, timing.slots, &mut plain[0..336]);
-    memory::keep_short(input, timing.slots, &mut plain[336..394]);
+    span::each(short, shorts, lent, &mut runs, left, right);
+    memory::keep_long(lent.input, position, timing.slots, &mut plain[0..336]);
+    memory::keep_short(lent.input, timing.slots, &mut plain[336..394]);
 }
 
 // The channels above the all-pass ones, of a frame. What they have in common is lent: the input, ducking factors, the
 // coefficients at the borders, and the memory of every delay.
+// Kept: eight parameters, (a): a public function keeps its parameters and its clauses.
 pub fn delay_channels(
     layout: Layout,
     timing: Timing,
@@ -101,27 +83,19 @@ pub fn delay_channels(
     let within = timing.slots.min(32);
     let needed = 128 * within;
     let bands = layout.bands();
-    if left.len() != needed {
-        return;
-    }
-    if right.len() != needed {
-        return;
-    }
-    if input.len() < needed {
-        return;
-    }
-    if gains.len() < 32 * bands {
-        return;
-    }
-    if rows.len() < limits::COURSE * bands {
-        return;
-    }
-    if plain.len() != 394 {
+    if left.len() != needed
+        || right.len() != needed
+        || input.len() < needed
+        || gains.len() < 32 * bands
+        || rows.len() < limits::COURSE * bands
+        || plain.len() != 394
+    {
         return;
     }
     let cut = Timing {
         slots: within,
         ..timing
     };
-    frame(layout, cut, input, gains, rows, plain, left, right);
+    let lent = Lent { input, gains, rows };
+    frame(layout, cut, lent, plain, left, right);
 }

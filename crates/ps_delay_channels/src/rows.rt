@@ -18,33 +18,48 @@ pub struct Delay {
     pub position: usize,
 }
 
-// QMF bands from `from` on that share a stereo band and a delay.
+// What a frame lends to its spans: its input, the ducking factors, and the coefficients at the borders.
 #[derive(Clone, Copy)]
-pub struct Span {
+pub struct Lent<'a> {
+    pub input: &'a [f64],
+    pub gains: &'a [f64],
+    pub rows: &'a [f64],
+}
+
+// QMF bands from `from` on that share a stereo band and a delay, whose memory is lent.
+#[derive(Clone, Copy)]
+pub struct Span<'a> {
     pub band: usize,
     pub from: usize,
     pub count: usize,
     pub delay: Delay,
+    pub before: &'a [f64],
+}
+
+// Slot n of some bands: what comes, what came before by the delay, and its ducking factor.
+#[derive(Clone, Copy)]
+struct Slot<'a> {
+    n: usize,
+    factor: f64,
+    samples: &'a [f64],
+    delayed: &'a [f64],
 }
 
 // One slot of `count` bands, into both sides.
-fn weigh(
-    runs: &[f64; RUNS],
-    n: usize,
-    factor: f64,
-    count: usize,
-    samples: &[f64],
-    delayed: &[f64],
-    left: &mut [f64],
-    right: &mut [f64],
-)
-    requires slot { n < 32 }
-    requires samples_len { (length samples.now ≡ 2 * count) × (length delayed.now ≡ 2 * count) × (length left.old ≡ 2 * count) × (length right.old ≡ 2 * count) }
+fn weigh(runs: &[f64; RUNS], slot: Slot, count: usize, left: &mut [f64], right: &mut [f64])
+    requires slot { slot.n < 32 }
+    requires samples_len { (length slot.samples.now ≡ 2 * count) × (length slot.delayed.now ≡ 2 * count) × (length left.old ≡ 2 * count) × (length right.old ≡ 2 * count) }
     ensures left { (j : ℕ) → j < count → cell 1 left.new (2 * j)
-        ≡ left_of false (matrix_at runs.now n) (cell 1 samples.now (2 * j)) (scaled (cell 1 delayed.now (2 * j)) factor) }
+        ≡ left_of false (matrix_at runs.now slot.entry.n) (cell 1 slot.entry.samples.now (2 * j)) (scaled (cell 1 slot.entry.delayed.now (2 * j)) slot.entry.factor) }
     ensures right { (j : ℕ) → j < count → cell 1 right.new (2 * j)
-        ≡ right_of false (matrix_at runs.now n) (cell 1 samples.now (2 * j)) (scaled (cell 1 delayed.now (2 * j)) factor) }
+        ≡ right_of false (matrix_at runs.now slot.entry.n) (cell 1 slot.entry.samples.now (2 * j)) (scaled (cell 1 slot.entry.delayed.now (2 * j)) slot.entry.factor) }
 {
+    let Slot {
+        n,
+        factor,
+        samples,
+        delayed,
+    } = slot;
     let a = runs[n];
     let b = runs[n + 32];
     let c = runs[n + 64];
@@ -65,23 +80,22 @@ fn weigh(
     }
 }
 
-// A span over a frame, each band beside what came before by its delay: in the first slots that stands in the memory's rows, which are 24 numbers apart.
+// A span over a frame, whose ducking factors are lent alone: each of its bands beside what came before by its delay, which in the first slots stands in the
+// memory's rows, 24 numbers apart.
 pub fn bands(
     span: Span,
     slots: usize,
+    lent: Lent,
     runs: &[f64; RUNS],
-    gains: &[f64],
-    input: &[f64],
-    before: &[f64],
     left: &mut [f64],
     right: &mut [f64],
 )
-    requires gains_len { length gains.now ≡ 32 }
-    requires frame { Frame slots input.now left.old right.old × Before span.delay span.from span.count before.now }
-    ensures left { Banded span.from span.count slots (mixed_at span.delay before.now input.now
-        left_of (matrix_at runs.now) (λ n. get_or gains.now n nan)) left.old left.new }
-    ensures right { Banded span.from span.count slots (mixed_at span.delay before.now input.now
-        right_of (matrix_at runs.now) (λ n. get_or gains.now n nan)) right.old right.new }
+    requires gains_len { length lent.gains.now ≡ 32 }
+    requires frame { Frame slots lent.input.now left.old right.old × Before span.delay span.from span.count span.before.now }
+    ensures left { Banded span.entry.from span.entry.count slots (mixed_at span.entry.delay span.entry.before.now lent.entry.input.now
+        left_of (matrix_at runs.now) (λ n. get_or lent.entry.gains.now n nan)) left.old left.new }
+    ensures right { Banded span.entry.from span.entry.count slots (mixed_at span.entry.delay span.entry.before.now lent.entry.input.now
+        right_of (matrix_at runs.now) (λ n. get_or lent.entry.gains.now n nan)) right.old right.new }
 {
     let Span {
         from,
@@ -95,18 +109,21 @@ pub fn bands(
         let at = 128 * n + 2 * from;
         let delayed = if n < delay.slots {
             let then = 24 * ((delay.position + n) % 14) + column;
-            &before[then..then + wide]
+            &span.before[then..then + wide]
         } else {
             let then = 128 * (n - delay.slots) + 2 * from;
-            &input[then..then + wide]
+            &lent.input[then..then + wide]
+        };
+        let slot = Slot {
+            n,
+            factor: lent.gains[n],
+            samples: &lent.input[at..at + wide],
+            delayed,
         };
         weigh(
             runs,
-            n,
-            gains[n],
+            slot,
             count,
-            &input[at..at + wide],
-            delayed,
             &mut left[at..at + wide],
             &mut right[at..at + wide],
         );

@@ -9,16 +9,18 @@ ghost use Rattle.standard.specs.Mixing.{left_of, right_of};
 ghost use Rattle.ps_delay_channels.specs.Spans.{long_delay, short_delay, Before, Frame, Banded, side_in, side_from};
 
 use super::rows;
-use super::rows::{Delay, Span};
+use super::rows::{Delay, Lent, Span};
 use layout::{Kind, Layout};
 use ps_stereo_slots::{RUNS, Timing};
 
-// What the spans of a delay have in common: the layout, when coefficients change, and the delay.
+// What the spans of a delay have in common: the layout, when coefficients change and how far each slot lies on its way, the delay, and its memory.
 #[derive(Clone, Copy)]
-pub struct Common {
+pub struct Common<'a> {
     pub layout: Layout,
     pub timing: Timing,
+    pub fractions: &'a [f64; limits::FRACTIONS],
     pub delay: Delay,
+    pub before: &'a [f64],
 }
 
 // The delay of channel k, which is no all-pass channel. Its QMF bands are those of either layout: 23 to 34, or 35 to 63.
@@ -58,29 +60,26 @@ fn span_end(map: &[u8; 91], k: usize, end: usize) -> usize
 // A span: its band's coefficients slot by slot, and both sides.
 fn mix_span(
     span: Span,
-    timing: Timing,
-    fractions: &[f64; limits::FRACTIONS],
-    input: &[f64],
-    gains: &[f64],
-    rows: &[f64],
-    before: &[f64],
+    common: Common,
+    lent: Lent,
     runs: &mut [f64; RUNS],
     left: &mut [f64],
     right: &mut [f64],
 )
-    requires fractions { Fractions timing.borders timing.count fractions.now × (span.band < 34) }
-    requires band_in_bounds { (32 * span.band + 32 ≤ length gains.now) × (limits.course * span.band + limits.course ≤ length rows.now) }
-    requires frame { Frame timing.slots input.now left.old right.old × Before span.delay span.from span.count before.now }
-    ensures left { Banded span.from span.count timing.slots (side_in span.delay before.now input.now
-        timing gains.now rows.now left_of span.band) left.old left.new }
-    ensures right { Banded span.from span.count timing.slots (side_in span.delay before.now input.now
-        timing gains.now rows.now right_of span.band) right.old right.new }
+    requires fractions { Fractions common.timing.borders common.timing.count common.fractions.now × (span.band < 34) }
+    requires band_in_bounds { (32 * span.band + 32 ≤ length lent.gains.now) × (limits.course * span.band + limits.course ≤ length lent.rows.now) }
+    requires frame { Frame common.timing.slots lent.input.now left.old right.old × Before span.delay span.from span.count span.before.now }
+    ensures left { Banded span.entry.from span.entry.count common.entry.timing.slots (side_in span.entry.delay span.entry.before.now lent.entry.input.now
+        common.entry.timing lent.entry.gains.now lent.entry.rows.now left_of span.entry.band) left.old left.new }
+    ensures right { Banded span.entry.from span.entry.count common.entry.timing.slots (side_in span.entry.delay span.entry.before.now lent.entry.input.now
+        common.entry.timing lent.entry.gains.now lent.entry.rows.now right_of span.entry.band) right.old right.new }
 {
+    let timing = common.timing;
     let slots = timing.slots;
     let band = span.band;
     ps_stereo_slots::interpolate(
-        rows,
-        fractions,
+        lent.rows,
+        common.fractions,
         timing.borders,
         timing.count,
         band,
@@ -88,16 +87,12 @@ fn mix_span(
         runs,
     );
     let at = 32 * band;
-    rows::bands(
-        span,
-        slots,
-        runs,
-        &gains[at..at + 32],
-        input,
-        before,
-        left,
-        right,
-    );
+    let own = Lent {
+        input: lent.input,
+        gains: &lent.gains[at..at + 32],
+        rows: lent.rows,
+    };
+    rows::bands(span, slots, own, runs, left, right);
 }
 
 // All channels of the delay that `start` is the first channel of, in rising order. The lists that a span fills are lent, so that none is built inside the
@@ -105,30 +100,22 @@ fn mix_span(
 pub fn each(
     common: Common,
     start: usize,
-    fractions: &[f64; limits::FRACTIONS],
-    input: &[f64],
-    gains: &[f64],
-    rows: &[f64],
-    before: &[f64],
+    lent: Lent,
     runs: &mut [f64; RUNS],
     left: &mut [f64],
     right: &mut [f64],
 )
-    requires fractions { Fractions common.timing.borders common.timing.count fractions.now × Frame common.timing.slots input.now left.old right.old }
-    requires layout_in_bounds { (32 * bands_of common.layout ≤ length gains.now) × (limits.course * bands_of common.layout ≤ length rows.now) }
+    requires fractions { Fractions common.timing.borders common.timing.count common.fractions.now × Frame common.timing.slots lent.input.now left.old right.old }
+    requires layout_in_bounds { (32 * bands_of common.layout ≤ length lent.gains.now) × (limits.course * bands_of common.layout ≤ length lent.rows.now) }
     requires layout_bound { (all_pass_of common.layout ≤ start) × (start + common.delay.bands ≤ channels_of common.layout) × (common.delay.first ≡ qmf_band_of common.layout start)
-        × Before common.delay common.delay.first common.delay.bands before.now }
-    ensures left { Banded common.delay.first common.delay.bands common.timing.slots (side_from common.delay before.now input.now
-        common.timing gains.now rows.now left_of common.layout) left.old left.new }
-    ensures right { Banded common.delay.first common.delay.bands common.timing.slots (side_from common.delay before.now input.now
-        common.timing gains.now rows.now right_of common.layout) right.old right.new }
+        × Before common.delay common.delay.first common.delay.bands common.before.now }
+    ensures left { Banded common.entry.delay.first common.entry.delay.bands common.entry.timing.slots (side_from common.entry.delay common.entry.before.now lent.entry.input.now
+        common.entry.timing lent.entry.gains.now lent.entry.rows.now left_of common.entry.layout) left.old left.new }
+    ensures right { Banded common.entry.delay.first common.entry.delay.bands common.entry.timing.slots (side_from common.entry.delay common.entry.before.now lent.entry.input.now
+        common.entry.timing lent.entry.gains.now lent.entry.rows.now right_of common.entry.layout) right.old right.new }
 {
-    let Common {
-        layout,
-        timing,
-        delay,
-    } = common;
-    let map = ps_map::parameter_map(layout);
+    let delay = common.delay;
+    let map = ps_map::parameter_map(common.layout);
     let end = start + delay.bands;
     let mut k = start;
     // Kept: a turn goes on where its span ends, which no range or iterator counts.
@@ -139,10 +126,9 @@ pub fn each(
             from: delay.first + (k - start),
             count: next - k,
             delay,
+            before: common.before,
         };
-        mix_span(
-            span, timing, fractions, input, gains, rows, before, runs, left, right,
-        );
+        mix_span(span, common, lent, runs, left, right);
         k = next;
     }
 }

@@ -8,6 +8,7 @@ ghost use Rattle.standard.specs.Numbers.{zero};
 ghost use Rattle.standard.specs.Hybrid.{tap, added_to};
 ghost use Rattle.ps_hybrid_analysis.specs.Stages.{Waves};
 
+use super::band::Band;
 use super::plan;
 use complex::Complex;
 use decimals::Prototype;
@@ -114,14 +115,14 @@ fn convolved(taps: &[f64; 26], band: &[f64; 88], n: usize) -> Complex
 }
 
 // A filter's answer, added to a hybrid channel.
-pub fn join(taps: &[f64; 26], band: &[f64; 88], slots: usize, run: &mut [f64])
-    requires { (length run.old ≡ 64) × (slots ≤ 32) }
-    ensures { run.new ≡ planar 32 (overwritten slots
-        (λ n. sum (cell 32 run.old n) (added_to (λ m. product (cell 13 taps.now m) (cell 44 band.now (n + 12 - m))) 0 13))
+pub fn join(taps: &[f64; 26], band: Band, run: &mut [f64])
+    requires { length run.old ≡ 64 }
+    ensures { run.new ≡ planar 32 (overwritten band.entry.slots.count
+        (λ n. sum (cell 32 run.old n) (added_to (λ m. product (cell 13 taps.now m) (cell 44 band.entry.run.now (n + 12 - m))) 0 13))
         (cell 32 run.old)) }
 {
-    for n in 0..slots {
-        let y = convolved(taps, band, n);
+    for n in 0..band.slots.count {
+        let y = convolved(taps, band.run, n);
         let re = run[n] + y.re;
         let im = run[n + 32] + y.im;
         run[n] = re;

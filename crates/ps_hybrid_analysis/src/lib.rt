@@ -18,26 +18,28 @@ ghost use Rattle.ps_hybrid_analysis.specs.Analysis.{slot_at, answer_of, history_
 ghost use Rattle.ps_hybrid_analysis.specs.Stages.{band_at, Written};
 
 use answer::Answer;
+use band::{Band, Slots};
 use decimals::Prototype;
 use filter::Bank;
 use layout::Layout;
 
 // A channel's slots are 0, before its filters are added.
-fn silence_run(run: &mut [f64], slots: usize)
-    requires { (length run.old ≡ 64) × (slots ≤ 32) }
-    ensures { run.new ≡ planar 32 (overwritten slots (λ n. nought) (cell 32 run.old)) }
+fn silence_run(run: &mut [f64], slots: Slots)
+    requires { length run.old ≡ 64 }
+    ensures { run.new ≡ planar 32 (overwritten slots.count (λ n. nought) (cell 32 run.old)) }
 {
+    let count = slots.count;
     // Kept: two `fill`s of a few numbers are slower: 0.3 % of a frame's instructions.
-    for n in 0..slots {
+    for n in 0..count {
         run[n] = 0.0;
         run[n + 32] = 0.0;
     }
 }
 
 // The channels of a split band.
-fn silence(samples: &mut [f64], from: usize, to: usize, slots: usize)
-    requires { (from ≤ to) × (64 * to ≤ length samples.old) × (slots ≤ 32) }
-    ensures { Written slots from to (λ k n. nought) samples.old samples.new }
+fn silence(samples: &mut [f64], from: usize, to: usize, slots: Slots)
+    requires { (from ≤ to) × (64 * to ≤ length samples.old) }
+    ensures { Written slots.count from to (λ k n. nought) samples.old samples.new }
 {
     for k in from..to {
         let at = 64 * k;
@@ -46,101 +48,83 @@ fn silence(samples: &mut [f64], from: usize, to: usize, slots: usize)
 }
 
 // Filter q of QMF band p, added to its hybrid channel.
-fn apply(
-    layout: Layout,
-    p: usize,
-    bank: &Bank,
-    q: usize,
-    band: &[f64; 88],
-    slots: usize,
-    samples: &mut [f64],
-)
+fn apply(layout: Layout, p: usize, bank: &Bank, q: usize, band: Band, samples: &mut [f64])
     requires prototype_value { (bank.now.prototype ≡ prototype_for layout p) × ((p < split_of layout) × (q < filters_of bank.now.prototype)) }
-    requires room { (64 * unsplit_from_of layout ≤ length samples.old) × (slots ≤ 32) }
-    ensures { Written slots (channel_for layout p q) (channel_for layout p q + 1)
-        (λ k n. sum (sample_at samples.old n k) (filtered bank.now.prototype q (cell 44 band.now) n))
+    requires room { 64 * unsplit_from_of layout ≤ length samples.old }
+    ensures { Written band.entry.slots.count (channel_for layout p q) (channel_for layout p q + 1)
+        (λ k n. sum (sample_at samples.old n k) (filtered bank.now.prototype q (cell 44 band.entry.run.now) n))
         samples.old samples.new }
 {
     let mut taps = [0.0; 26];
     bank.taps(q, &mut taps);
     let k = plan::channel(layout, p, q);
     let at = 64 * k;
-    filter::join(&taps, band, slots, &mut samples[at..at + 64]);
+    filter::join(&taps, band, &mut samples[at..at + 64]);
 }
 
 // The filters of QMF band p in their order, over channels that are 0.
-fn apply_all(
-    layout: Layout,
-    p: usize,
-    bank: &Bank,
-    band: &[f64; 88],
-    slots: usize,
-    samples: &mut [f64],
-)
+fn apply_all(layout: Layout, p: usize, bank: &Bank, band: Band, samples: &mut [f64])
     requires prototype_value { (bank.now.prototype ≡ prototype_for layout p) × (p < split_of layout) }
-    requires room { (64 * unsplit_from_of layout ≤ length samples.old) × (slots ≤ 32) }
-    requires by_index { (k n : ℕ) → first_channel_of layout p ≤ k → k < first_channel_of layout (suc p) → n < slots → sample_at samples.old n k ≡ nought }
-    ensures { Written slots (first_channel_of layout p) (first_channel_of layout (suc p))
-        (λ k n. joined_to layout p (cell 44 band.now) n k (filters_of bank.now.prototype)) samples.old samples.new }
+    requires room { 64 * unsplit_from_of layout ≤ length samples.old }
+    requires by_index { (k n : ℕ) → first_channel_of layout p ≤ k → k < first_channel_of layout (suc p) → n < band.slots.count → sample_at samples.old n k ≡ nought }
+    ensures { Written band.entry.slots.count (first_channel_of layout p) (first_channel_of layout (suc p))
+        (λ k n. joined_to layout p (cell 44 band.entry.run.now) n k (filters_of bank.now.prototype)) samples.old samples.new }
 {
     let count = plan::filters_of(bank.prototype);
     for q in 0..count {
-        apply(layout, p, bank, q, band, slots, samples);
+        apply(layout, p, bank, q, band, samples);
     }
 }
 
 // The filters of a prototype, made ready once for a band.
-fn modulate(
-    layout: Layout,
-    p: usize,
-    prototype: Prototype,
-    band: &[f64; 88],
-    slots: usize,
-    samples: &mut [f64],
-)
+fn modulate(layout: Layout, p: usize, prototype: Prototype, band: Band, samples: &mut [f64])
     requires prototype_value { (prototype ≡ prototype_for layout p) × (p < split_of layout) }
-    requires room { (64 * unsplit_from_of layout ≤ length samples.old) × (slots ≤ 32) }
-    requires by_index { (k n : ℕ) → first_channel_of layout p ≤ k → k < first_channel_of layout (suc p) → n < slots → sample_at samples.old n k ≡ nought }
-    ensures { Written slots (first_channel_of layout p) (first_channel_of layout (suc p))
-        (λ k n. joined_to layout p (cell 44 band.now) n k (filters_of prototype)) samples.old samples.new }
+    requires room { 64 * unsplit_from_of layout ≤ length samples.old }
+    requires by_index { (k n : ℕ) → first_channel_of layout p ≤ k → k < first_channel_of layout (suc p) → n < band.slots.count → sample_at samples.old n k ≡ nought }
+    ensures { Written band.entry.slots.count (first_channel_of layout p) (first_channel_of layout (suc p))
+        (λ k n. joined_to layout p (cell 44 band.entry.run.now) n k (filters_of prototype)) samples.old samples.new }
 {
-    apply_all(layout, p, &Bank::new(prototype), band, slots, samples);
+    apply_all(layout, p, &Bank::new(prototype), band, samples);
 }
 
 // The hybrid channels of QMF band p, from its slots.
-fn filter_band(layout: Layout, p: usize, band: &[f64; 88], slots: usize, samples: &mut [f64])
+fn filter_band(layout: Layout, p: usize, band: Band, samples: &mut [f64])
     requires p_bound { p < split_of layout }
-    requires room { (64 * unsplit_from_of layout ≤ length samples.old) × (slots ≤ 32) }
-    ensures { Written slots (first_channel_of layout p) (first_channel_of layout (suc p))
-        (λ k n. joined_to layout p (cell 44 band.now) n k (filters_of (prototype_for layout p))) samples.old samples.new }
+    requires room { 64 * unsplit_from_of layout ≤ length samples.old }
+    ensures { Written band.entry.slots.count (first_channel_of layout p) (first_channel_of layout (suc p))
+        (λ k n. joined_to layout p (cell 44 band.entry.run.now) n k (filters_of (prototype_for layout p))) samples.old samples.new }
 {
     let from = layout.first_channel(p);
     let to = layout.first_channel(p + 1);
     let prototype = plan::prototype_for(layout, p);
-    silence(samples, from, to, slots);
-    modulate(layout, p, prototype, band, slots, samples);
+    silence(samples, from, to, band.slots);
+    modulate(layout, p, prototype, band, samples);
 }
 
 // QMF band p, on its part of the history.
-// Kept: the part is a slice: tried as an array, but `try_from` of a `&mut` leaves open what the list has once the part is back.
+// Kept: the part is a slice, (c): as an array, by `try_from` or `as_mut_array().unwrap()`, it is left open what the list has once the part is back.
 fn split_band(
     layout: Layout,
     p: usize,
     history: &mut [f64],
     input: &[f64],
-    slots: usize,
+    slots: Slots,
     samples: &mut [f64],
 )
-    requires p_bound { (p < split_of layout) × ((slots ≤ 32) × (length history.old ≡ 12)) }
-    requires slots_in_bounds { (128 * (slots + 6) ≤ length input.now) × (64 * unsplit_from_of layout ≤ length samples.old) }
-    ensures history { history.new ≡ planar 6 (λ j. band_at history.old input.now p (slots + j)) }
-    ensures samples { Written slots (first_channel_of layout p) (first_channel_of layout (suc p))
+    requires p_bound { (p < split_of layout) × (length history.old ≡ 12) }
+    requires slots_in_bounds { (128 * (slots.count + 6) ≤ length input.now) × (64 * unsplit_from_of layout ≤ length samples.old) }
+    ensures history { history.new ≡ planar 6 (λ j. band_at history.old input.now p (slots.count + j)) }
+    ensures samples { Written slots.count (first_channel_of layout p) (first_channel_of layout (suc p))
         (λ k n. joined_to layout p (band_at history.old input.now p) n k (filters_of (prototype_for layout p)))
         samples.old samples.new }
 {
     let mut gathered = [0.0; 88];
     band::gather(history, input, p, slots, &mut gathered);
-    filter_band(layout, p, &gathered, slots, samples);
+    let band = Band {
+        run: &gathered,
+        slots,
+    };
+    filter_band(layout, p, band, samples);
     band::keep(&gathered, slots, history);
 }
 
@@ -149,15 +133,15 @@ fn split_bands(
     layout: Layout,
     history: &mut [f64],
     input: &[f64],
-    slots: usize,
+    slots: Slots,
     samples: &mut [f64],
 )
-    requires slots_bound { (slots ≤ 32) × (12 * split_of layout ≤ length history.old) }
-    requires slots_in_bounds { (128 * (slots + 6) ≤ length input.now) × (64 * unsplit_from_of layout ≤ length samples.old) }
+    requires history_len { 12 * split_of layout ≤ length history.old }
+    requires slots_in_bounds { (128 * (slots.count + 6) ≤ length input.now) × (64 * unsplit_from_of layout ≤ length samples.old) }
     ensures history { history.new ≡
-        rows (λ p. planar 6 (λ j. slot_at layout history.old input.now p (slots + j))) (split_of layout)
+        rows (λ p. planar 6 (λ j. slot_at layout history.old input.now p (slots.count + j))) (split_of layout)
         ++ drop (12 * split_of layout) history.old }
-    ensures samples { Written slots 0 (unsplit_from_of layout)
+    ensures samples { Written slots.count 0 (unsplit_from_of layout)
         (λ k n. hybrid layout (slot_at layout history.old input.now) n k) samples.old samples.new }
 {
     let split = layout.split();
@@ -179,8 +163,10 @@ pub fn analyse(
     ensures history { history.new ≡ history_after layout history.old input.now samples.old (slots_of asked) }
     ensures samples { samples.new ≡ samples_after layout history.old input.now samples.old (slots_of asked) }
 {
-    let slots = borders::slots(asked);
-    if input.len() < 128 * (slots + 6)
+    let slots = Slots {
+        count: borders::slots(asked),
+    };
+    if input.len() < 128 * (slots.count + 6)
         || history.len() < 12 * layout.split()
         || samples.len() < 64 * layout.unsplit_from()
     {

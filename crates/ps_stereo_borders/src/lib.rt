@@ -36,19 +36,24 @@ fn modes_of(header: Header) -> Modes
     }
 }
 
-// The envelopes, one after the other.
-fn envelopes(
+// What a frame says: its bands, its header, and the indices of its envelopes.
+#[derive(Clone, Copy)]
+struct Frame {
     layout: Layout,
     header: Header,
     indices: PsIndices,
-    count: usize,
-    directions: &[i64],
-    phases: &mut [i8],
-    rows: &mut [f64],
-)
-    requires { (count ≤ limits.envelopes) × (4 * bands_of layout ≤ length phases.old) × (limits.course * bands_of layout ≤ length rows.old) }
-    ensures { Advanced layout header indices directions.now phases.old rows.old count phases.new rows.new }
+}
+
+// The envelopes, one after the other.
+fn envelopes(frame: Frame, count: usize, directions: &[i64], phases: &mut [i8], rows: &mut [f64])
+    requires { (count ≤ limits.envelopes) × (4 * bands_of frame.layout ≤ length phases.old) × (limits.course * bands_of frame.layout ≤ length rows.old) }
+    ensures { Advanced frame.layout frame.header frame.indices directions.now phases.old rows.old count phases.new rows.new }
 {
+    let Frame {
+        layout,
+        header,
+        indices,
+    } = frame;
     let coefficients = mixing_table::table();
     let modes = modes_of(header);
     for e in 0..count {
@@ -68,6 +73,7 @@ fn envelopes(
 
 // The borders of a frame's envelopes, cut to the limit, from a lent table of directions: each band's course gets the kept coefficients and those of each
 // envelope; the last ones are kept. Nothing changes where a list has no room for the layout's bands.
+// Kept: seven parameters, (a): a public function keeps its parameters and its clauses.
 pub fn coefficients(
     layout: Layout,
     header: Header,
@@ -82,13 +88,10 @@ pub fn coefficients(
     ensures rows { rows.new ≡ rows_after layout header indices directions.now matrices.old phases.old rows.old }
 {
     let bands = layout.bands();
-    if matrices.len() < 8 * bands {
-        return;
-    }
-    if phases.len() < 4 * bands {
-        return;
-    }
-    if rows.len() < limits::COURSE * bands {
+    if matrices.len() < 8 * bands
+        || phases.len() < 4 * bands
+        || rows.len() < limits::COURSE * bands
+    {
         return;
     }
     copy(bands, matrices, 8, 0, rows, limits::COURSE);
@@ -96,6 +99,11 @@ pub fn coefficients(
     if count == 0 {
         return;
     }
-    envelopes(layout, header, indices, count, directions, phases, rows);
+    let frame = Frame {
+        layout,
+        header,
+        indices,
+    };
+    envelopes(frame, count, directions, phases, rows);
     copy(bands, rows, limits::COURSE, 8 * count, matrices, 8);
 }

@@ -23,6 +23,7 @@ type Indices = Kinds<i8>;
 fn natural(index: i32) -> usize
     ensures { result ≡ natural_of index }
 {
+    // Kept: (b): by try_from and unwrap_or a frame's coefficients at the borders take 17 % more instructions.
     index.max(0) as usize
 }
 
@@ -37,6 +38,22 @@ fn level(fine: bool, iid: i8) -> usize
     ensures { result ≡ level_of fine iid }
 {
     natural(i32::from(iid) + if fine { 15 } else { 7 })
+}
+
+// The tables that are lent: coefficients and directions.
+#[derive(Clone, Copy)]
+struct Tables<'a> {
+    coefficients: &'a [i64; 2944],
+    directions: &'a [i64],
+}
+
+// What is said of a border: that it is that of envelope e, how its coefficients are made, and its indices.
+#[derive(Clone, Copy)]
+struct Border {
+    layout: Layout,
+    modes: Modes,
+    cues: Cues,
+    e: usize,
 }
 
 // A band's coefficients before phase.
@@ -91,22 +108,16 @@ fn rotated(h: Matrix, opd: Complex, ipd: Complex) -> Matrix
 }
 
 // A band's coefficients, with its four phase indices.
-fn matrix(
-    coefficients: &[i64; 2944],
-    directions: &[i64],
-    modes: Modes,
-    indices: Indices,
-    phases: &[i8],
-) -> Matrix
+fn matrix(tables: Tables, modes: Modes, indices: Indices, phases: &[i8]) -> Matrix
     requires { length phases.now ≡ 4 }
-    ensures { result ≡ matrix_at coefficients.now directions.now modes (cue_in indices) phases.now }
+    ensures { result ≡ matrix_at tables.entry.coefficients.now tables.entry.directions.now modes (cue_in indices) phases.now }
 {
-    let h = base(coefficients, modes, indices);
+    let h = base(tables.coefficients, modes, indices);
     if !modes.phase {
         return h;
     }
-    let opd = direction(directions, &phases[2..4], indices.opd);
-    let ipd = direction(directions, &phases[0..2], indices.ipd);
+    let opd = direction(tables.directions, &phases[2..4], indices.opd);
+    let ipd = direction(tables.directions, &phases[0..2], indices.ipd);
     rotated(h, opd, ipd)
 }
 
@@ -131,20 +142,17 @@ fn shift(phase: bool, indices: Indices, phases: &mut [i8])
 }
 
 // The bands of a layout, one after the other.
-fn each(
-    coefficients: &[i64; 2944],
-    directions: &[i64],
-    layout: Layout,
-    modes: Modes,
-    cues: Cues,
-    phases: &mut [i8],
-    e: usize,
-    rows: &mut [f64],
-)
-    requires { (e < limits.envelopes) × (4 * bands_of layout ≤ length phases.old) × (limits.course * bands_of layout ≤ length rows.old) }
-    ensures phases { phases.new ≡ kept_then layout modes cues phases.old }
-    ensures rows { rows.new ≡ rows_then coefficients.now directions.now layout modes cues phases.old e rows.old }
+fn each(tables: Tables, border: Border, phases: &mut [i8], rows: &mut [f64])
+    requires { (border.e < limits.envelopes) × (4 * bands_of border.layout ≤ length phases.old) × (limits.course * bands_of border.layout ≤ length rows.old) }
+    ensures phases { phases.new ≡ kept_then border.layout border.modes border.cues phases.old }
+    ensures rows { rows.new ≡ rows_then tables.entry.coefficients.now tables.entry.directions.now border.layout border.modes border.cues phases.old border.e rows.old }
 {
+    let Border {
+        layout,
+        modes,
+        cues,
+        e,
+    } = border;
     let bands = layout.bands();
     for b in 0..bands {
         let indices = Indices {
@@ -155,7 +163,7 @@ fn each(
         };
         let p = 4 * b;
         let at = limits::COURSE * b + 8 * (e + 1);
-        let h = matrix(coefficients, directions, modes, indices, &phases[p..p + 4]);
+        let h = matrix(tables, modes, indices, &phases[p..p + 4]);
         store(h, &mut rows[at..at + 8]);
         shift(modes.phase, indices, &mut phases[p..p + 4]);
     }
@@ -163,6 +171,7 @@ fn each(
 
 // Envelope e of a frame, from lent tables of coefficients and directions. Nothing changes where the phase indices or the rows have no room for the
 // layout's bands.
+// Kept: eight parameters, (a): a public function keeps its parameters and its clauses.
 pub fn envelope(
     coefficients: &[i64; 2944],
     directions: &[i64],
@@ -177,23 +186,18 @@ pub fn envelope(
     ensures rows { rows.new ≡ rows_after coefficients.now directions.now layout modes cues phases.old e rows.old }
 {
     let bands = layout.bands();
-    if limits::ENVELOPES <= e {
+    if limits::ENVELOPES <= e || phases.len() < 4 * bands || rows.len() < limits::COURSE * bands {
         return;
     }
-    if phases.len() < 4 * bands {
-        return;
-    }
-    if rows.len() < limits::COURSE * bands {
-        return;
-    }
-    each(
+    let tables = Tables {
         coefficients,
         directions,
+    };
+    let border = Border {
         layout,
         modes,
         cues,
-        phases,
         e,
-        rows,
-    );
+    };
+    each(tables, border, phases, rows);
 }

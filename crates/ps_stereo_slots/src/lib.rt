@@ -226,21 +226,26 @@ fn hold(h: Matrix, first: usize, end: usize, out: &mut [f64; RUNS])
     }
 }
 
-// A band whose course stands at `at`: each envelope's region, then the slots after the last border.
-fn envelopes(
-    rows: &[f64],
-    at: usize,
-    fractions: &[f64; limits::FRACTIONS],
+// The ways of a frame: the borders of its envelopes, how many there are, and how far each slot lies on its way from one to the next.
+#[derive(Clone, Copy)]
+struct Ways<'a> {
     borders: [u8; limits::ENVELOPES],
     count: usize,
-    slots: usize,
-    out: &mut [f64; RUNS],
-)
+    fractions: &'a [f64; limits::FRACTIONS],
+}
+
+// A band whose course stands at `at`: each envelope's region, then the slots after the last border.
+fn envelopes(rows: &[f64], at: usize, ways: Ways, slots: usize, out: &mut [f64; RUNS])
     requires course_in_bounds { at + limits.course ≤ length rows.now }
-    requires count_le_envelopes { (count ≤ limits.envelopes) × (slots ≤ 32) }
-    ensures { out.new ≡ matrix_runs (overwritten slots (λ n. cond (leb (start borders count) n) (row_matrix rows.now at count)
-        (filled_by borders (fraction_at fractions.now) (row_matrix rows.now at) n count)) (matrix_at out.old)) }
+    requires count_le_envelopes { (ways.count ≤ limits.envelopes) × (slots ≤ 32) }
+    ensures { out.new ≡ matrix_runs (overwritten slots (λ n. cond (leb (start ways.entry.borders ways.entry.count) n) (row_matrix rows.now at ways.entry.count)
+        (filled_by ways.entry.borders (fraction_at ways.entry.fractions.now) (row_matrix rows.now at) n ways.entry.count)) (matrix_at out.old)) }
 {
+    let Ways {
+        borders,
+        count,
+        fractions,
+    } = ways;
     let mut from = matrix_at(rows, at);
     let mut first = 0;
     for e in 0..count {
@@ -255,6 +260,7 @@ fn envelopes(
 }
 
 // A band of 34 over at most 32 slots, envelopes cut to the limit. Nothing changes where the rows have no course of the band.
+// Kept: seven parameters, (a): a public function keeps its parameters and its clauses.
 pub fn interpolate(
     rows: &[f64],
     fractions: &[f64; limits::FRACTIONS],
@@ -266,13 +272,13 @@ pub fn interpolate(
 )
     ensures { out.new ≡ runs_after rows.now fractions.now borders count band (min slots 32) out.old }
 {
-    if 34 <= band {
+    if 34 <= band || rows.len() < limits::COURSE * band + limits::COURSE {
         return;
     }
-    let at = limits::COURSE * band;
-    if rows.len() < at + limits::COURSE {
-        return;
-    }
-    let used = count.min(limits::ENVELOPES);
-    envelopes(rows, at, fractions, borders, used, slots.min(32), out);
+    let ways = Ways {
+        borders,
+        count: count.min(limits::ENVELOPES),
+        fractions,
+    };
+    envelopes(rows, limits::COURSE * band, ways, slots.min(32), out);
 }

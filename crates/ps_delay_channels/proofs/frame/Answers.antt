@@ -22,8 +22,8 @@ each-requires c =
           (part 0 336 s.plain.now) (part_length 0 336 s.plain.now (omega (arith, c.requires.frame.1)));
     }
 
-pub slice_bounds-each-end-2 : goal.slice_bounds-each-end-2
-slice_bounds-each-end-2 c =
+pub slice_bounds-short-end : goal.slice_bounds-short-end
+slice_bounds-short-end c =
     omega (arith, c.requires.frame.1)
 
 pub each-requires-2 : goal.each-requires-2
@@ -70,7 +70,7 @@ returns c =
     let short = c.keep_short.new.short in
     let is_long = long_kind s.layout c.all_pass-longs.result (s.timing.turn % 14) _ c.delay_at.ensures c.all_pass-longs.ensures in
     let is_short = short_kind s.layout c.short_delay-shorts.result (s.timing.turn % 14) _ c.delay_at-2.ensures c.short_delay-shorts.ensures in
-    let p = all_done s.layout s.timing s.input.now s.gains.now s.rows.now plain s.left.now s.right.now _ _ _ _ long short c.requires.frame.0 c.requires.frame.1
+    let p = all_done s.layout s.timing s.lent.input.now s.lent.gains.now s.lent.rows.now plain s.left.now s.right.now _ _ _ _ long short c.requires.frame.0 c.requires.frame.1
     (rw is_long at c.each.ensures.left, rw is_long at c.each.ensures.right)
     (rw is_short at c.each-2.ensures.left, rw is_short at c.each-2.ensures.right)
     c.keep_long.auto.long c.keep_long.ensures c.keep_short.auto.short c.keep_short.ensures in

@@ -15,7 +15,7 @@ use Rattle.ps_hybrid_analysis.proofs.analyse.Goals.{then-input-slots-via-then-in
 pub returns-then-input-slots : goal.returns-then-input-slots
 returns-then-input-slots c =
     let a = c.args in
-    let n = c.slots-slots.result in
+    let n = c.slots.result in
     let short : enough a.layout a.history.now a.input.now a.samples.now n ≡ false =
     elim c.then-input-slots.branch [
       | then-input-slots-via-then-input-slots w ↦ rw (lt-leb (128 * (n + 6)) (length a.input.now) w.if-input-slots.true)
@@ -29,7 +29,7 @@ returns-then-input-slots c =
           )
     ] in
     let all = refused a.layout a.history.now a.input.now a.samples.now n short in
-    rw (← c.slots-slots.ensures) (record { answer = all.0; history = all.1.0; samples = all.1.1 })
+    rw (← c.slots.ensures) (record { answer = all.0; history = all.1.0; samples = all.1.1 })
 
 pub overflow_mul-split : goal.overflow_mul-split
 overflow_mul-split c = let a = c.args in omega (arith, c.split.ensures, (bounds a.layout).split)
@@ -42,13 +42,13 @@ overflow_mul-unsplit_from c =
 pub split_bands-requires : goal.split_bands-requires
 split_bands-requires c =
     record {
-      slots_bound = (omega arith, omega (arith, c.if-history-split.false, c.split.ensures));
+      history_len = omega (arith, c.if-history-split.false, c.split.ensures);
       slots_in_bounds = (c.if-input-slots.false, omega (arith, c.if-samples-unsplit_from.false, c.unsplit_from.ensures));
     }
 
 pub returns : goal.returns
 returns c =
     let a = c.args in
-    let all = done a.layout a.history.now a.input.now a.samples.now c.slots-slots.result c.if-input-slots.false (omega (arith, c.if-history-split.false, c.split.ensures))
+    let all = done a.layout a.history.now a.input.now a.samples.now c.slots.result c.if-input-slots.false (omega (arith, c.if-history-split.false, c.split.ensures))
     (omega (arith, c.if-samples-unsplit_from.false, c.unsplit_from.ensures)) c.split_bands.ensures.history c.split_bands.ensures.samples in
-    rw (← c.slots-slots.ensures) (record { answer = all.0; history = all.1.0; samples = all.1.1 })
+    rw (← c.slots.ensures) (record { answer = all.0; history = all.1.0; samples = all.1.1 })

@@ -22,7 +22,7 @@ slice_bounds-join-end c = omega (arith, c.channel-k.ensures.1)
 pub join-requires : goal.join-requires
 join-requires c =
     let k = c.channel-k.result in
-    (lent_long k (64 * k + 64 - 64 * k) c.args.samples.now (width _ _) (omega (arith, c.channel-k.ensures.1, c.requires.room.0)), c.requires.room.1)
+    lent_long k (64 * k + 64 - 64 * k) c.args.samples.now (width _ _) (omega (arith, c.channel-k.ensures.1, c.requires.room))
 
 pub returns : goal.returns
 returns c =
@@ -30,6 +30,6 @@ returns c =
     let k = c.channel-k.result in
     let taps = c.taps.new.out in
     rw (← c.channel-k.ensures.0)
-    (written_added a.slots k (64 * k + 64 - 64 * k) (λ n. convolved (cell 13 taps) (cell 44 a.band.now) n 13)
-    (filtered a.bank.now.prototype a.q (cell 44 a.band.now)) a.samples.now c.join.new.run (width _ _) (omega (arith, c.channel-k.ensures.1, c.requires.room.0))
-    c.requires.room.1 c.join.ensures (λ n. filtered_is a.bank.now.prototype a.q taps (cell 44 a.band.now) n c.taps.ensures))
+    (written_added a.band.slots.count k (64 * k + 64 - 64 * k) (λ n. convolved (cell 13 taps) (cell 44 a.band.run.now) n 13)
+    (filtered a.bank.now.prototype a.q (cell 44 a.band.run.now)) a.samples.now c.join.new.run (width _ _) (omega (arith, c.channel-k.ensures.1, c.requires.room))
+    a.band.slots.few c.join.ensures (λ n. filtered_is a.bank.now.prototype a.q taps (cell 44 a.band.run.now) n c.taps.ensures))

@@ -10,13 +10,13 @@ use Rattle.ps_hybrid_analysis.proofs.apply_all.Goals as goal
 
 pub loop-q-init : goal.loop-q-init
 loop-q-init c =
-    record { within = omega arith; written = joined_none c.args.layout c.args.p (cell 44 c.args.band.now) c.requires.by_index }
+    record { within = omega arith; written = joined_none c.args.layout c.args.p (cell 44 c.args.band.run.now) c.requires.by_index }
 
 pub apply-requires : goal.apply-requires
 apply-requires c =
     record {
       prototype_value = (c.requires.prototype_value.0, (c.requires.prototype_value.1, omega (arith, c.filters_of-count.ensures)));
-      room = (rw c.loop-q.invariant.written.long c.requires.room.0, c.requires.room.1);
+      room = rw c.loop-q.invariant.written.long c.requires.room;
     }
 
 pub loop-q-preserved : goal.loop-q-preserved
@@ -28,8 +28,8 @@ loop-q-preserved c =
     record {
       within = omega arith;
       written =
-          joined_more a.layout a.p (cell 44 a.band.now) q a.bank.now.prototype c.requires.prototype_value.0 c.loop-q.invariant.written c.apply.ensures
-          c.requires.room.1 inside.from inside.to;
+          joined_more a.layout a.p (cell 44 a.band.run.now) q a.bank.now.prototype c.requires.prototype_value.0 c.loop-q.invariant.written c.apply.ensures
+          a.band.slots.few inside.from inside.to;
     }
 
 pub shape_of-samples : goal.shape_of-samples

@@ -13,7 +13,7 @@ pub record Inv (l : Layout) (p : ℕ) (band : List Float) (slots count : ℕ) (o
   pub written : Written slots (first_channel_of l p) (first_channel_of l (suc p)) (λ k n. joined_to l p (cell 44 band) n k q) old new
 
 abbrev pub invariant-loop-q : goal.invariant-loop-q
-invariant-loop-q l = Inv l.layout l.p l.band l.slots l.count l.initial.samples l.samples l.q
+invariant-loop-q l = Inv l.layout l.p l.band.run.now l.band.slots.count l.count l.initial.samples l.samples l.q
 
 abbrev pub decreases-loop-q : goal.decreases-loop-q
 decreases-loop-q l = l.count - l.q

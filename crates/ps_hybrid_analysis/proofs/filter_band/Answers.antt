@@ -19,8 +19,7 @@ silence-requires c =
     let p = c.args.p in
     let to : c.first_channel-to.result ≡ first_channel_of l (suc p) = rw (add-one p) at c.first_channel-to.ensures in (
       omega (arith, c.first_channel-from.ensures, to, (spans l p).rises),
-      omega (arith, to, (spans l (suc p)).most, c.requires.room.0),
-      c.requires.room.1,
+      omega (arith, to, (spans l (suc p)).most, c.requires.room),
     )
 
 pub modulate-requires : goal.modulate-requires
@@ -28,12 +27,12 @@ modulate-requires c =
     let p = c.args.p in
     record {
       prototype_value = (c.prototype_for-prototype.ensures, c.requires.p_bound);
-      room = (rw c.silence.ensures.long c.requires.room.0, c.requires.room.1);
+      room = rw c.silence.ensures.long c.requires.room;
       by_index = silenced c.args.layout p c.silence.ensures c.first_channel-from.ensures (rw (add-one p) at c.first_channel-to.ensures);
     }
 
 pub returns : goal.returns
 returns c =
     let p = c.args.p in
-    banded c.args.layout p (cell 44 c.args.band.now) c.prototype_for-prototype.result c.silence.ensures c.modulate.ensures c.first_channel-from.ensures
+    banded c.args.layout p (cell 44 c.args.band.run.now) c.prototype_for-prototype.result c.silence.ensures c.modulate.ensures c.first_channel-from.ensures
     (rw (add-one p) at c.first_channel-to.ensures) c.prototype_for-prototype.ensures

@@ -16,7 +16,7 @@ slice_bounds-silence_run-end c = omega (arith, c.loop-k.invariant.written.long)
 pub silence_run-requires : goal.silence_run-requires
 silence_run-requires c =
     let k = c.loop-k.k in
-    (lent_long k (64 * k + 64 - 64 * k) c.loop-k.samples (width _ _) (omega (arith, c.loop-k.invariant.written.long, c.requires)), search rules)
+    lent_long k (64 * k + 64 - 64 * k) c.loop-k.samples (width _ _) (omega (arith, c.loop-k.invariant.written.long, c.requires))
 
 pub loop-k-preserved : goal.loop-k-preserved
 loop-k-preserved c =
@@ -26,7 +26,7 @@ loop-k-preserved c =
       within = omega arith;
       written =
           written_on c.loop-k.invariant.written
-          (written_lent c.args.slots k (64 * k + 64 - 64 * k) (λ k n. nought) c.loop-k.samples c.silence_run.new.run (width _ _)
+          (written_lent c.args.slots.count k (64 * k + 64 - 64 * k) (λ k n. nought) c.loop-k.samples c.silence_run.new.run (width _ _)
           (omega (arith, c.loop-k.invariant.written.long, c.requires)) (omega arith) c.silence_run.ensures)
           (omega arith) (omega arith) (omega arith);
     }

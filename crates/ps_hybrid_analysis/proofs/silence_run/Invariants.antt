@@ -4,7 +4,7 @@ use Rattle.ps_hybrid_analysis.proofs.Runs.{Filling}
 use Rattle.ps_hybrid_analysis.proofs.silence_run.Given as goal
 
 abbrev pub invariant-loop-n : goal.invariant-loop-n
-invariant-loop-n l = Filling 32 l.slots (λ i. nought) l.initial.run l.run l.n
+invariant-loop-n l = Filling 32 l.count (λ i. nought) l.initial.run l.run l.n
 
 abbrev pub decreases-loop-n : goal.decreases-loop-n
-decreases-loop-n l = l.slots - l.n
+decreases-loop-n l = l.count - l.n

@@ -30,14 +30,14 @@ loop-p-init c =
 
 pub slice_bounds-split_band-end : goal.slice_bounds-split_band-end
 slice_bounds-split_band-end c =
-    omega (arith, c.loop-p.invariant.long, c.split-split.ensures, c.requires.slots_bound.1)
+    omega (arith, c.loop-p.invariant.long, c.split-split.ensures, c.requires.history_len)
 
 pub split_band-requires : goal.split_band-requires
 split_band-requires c =
     let p = c.loop-p.p in
     let less : p < split_of c.args.layout = omega (arith, c.split-split.ensures) in
     record {
-      p_bound = (less, (c.requires.slots_bound.0, ap length (front_lent c.loop-p.invariant.kept.front 12) ∙ part_length (12 * p) 12 c.args.history.now (omega (arith, c.requires.slots_bound.1))));
+      p_bound = (less, (ap length (front_lent c.loop-p.invariant.kept.front 12) ∙ part_length (12 * p) 12 c.args.history.now (omega (arith, c.requires.history_len))));
       slots_in_bounds = (c.requires.slots_in_bounds.0, rw c.loop-p.invariant.written.long c.requires.slots_in_bounds.1);
     }
 
@@ -48,16 +48,16 @@ loop-p-preserved c =
     let less : p < split_of a.layout = omega (arith, c.split-split.ensures) in
     let next : 12 * (p + 1) ≡ 12 * p + 12 = omega arith in
     let lent = front_lent c.loop-p.invariant.kept.front 12 in
-    let new = c.split_band.ensures.history ∙ ap (λ (t : List Float). planar 6 (λ j. band_at t a.input.now p (a.slots + j))) lent in
+    let new = c.split_band.ensures.history ∙ ap (λ (t : List Float). planar 6 (λ j. band_at t a.input.now p (a.slots.count + j))) lent in
     let kept = rowed_more c.loop-p.invariant.kept 12 c.split_band.new.history new (ap length new ∙ planar_length 6 _) next in
     record {
       within = omega arith;
       kept = kept;
-      long = front_long kept.front (omega (arith, c.requires.slots_bound.1));
+      long = front_long kept.front (omega (arith, c.requires.history_len));
       written =
           split_on a.layout (slot_at a.layout a.history.now a.input.now) p (band_at (part (12 * p) (12 * p + 12 - 12 * p) c.loop-p.history) a.input.now p)
           c.loop-p.invariant.written c.split_band.ensures.samples
-          (λ j. ap (λ (t : List Float). band_at t a.input.now p j) lent) c.requires.slots_bound.0 less;
+          (λ j. ap (λ (t : List Float). band_at t a.input.now p j) lent) a.slots.few less;
     }
 
 pub shape_of-history : goal.shape_of-history

@@ -19,7 +19,7 @@ pub record Inv (l : Layout) (input : List Float) (slots split : ℕ) (history₀
   pub written : Written slots 0 (first_channel_of l p) (λ k n. hybrid l (slot_at l history₀ input) n k) samples₀ samples
 
 abbrev pub invariant-loop-p : goal.invariant-loop-p
-invariant-loop-p l = Inv l.layout l.input l.slots l.split l.initial.history l.history l.initial.samples l.samples l.p
+invariant-loop-p l = Inv l.layout l.input l.slots.count l.split l.initial.history l.history l.initial.samples l.samples l.p
 
 abbrev pub decreases-loop-p : goal.decreases-loop-p
 decreases-loop-p l = l.split - l.p

@@ -25,7 +25,7 @@ loop-e-init c =
     record {
       within = omega arith;
       few = c.requires.0;
-      turn = λ h modes config. turn_none a.layout h a.indices a.directions.now a.phases.now a.rows.now c.requires.1;
+      turn = λ h modes config. turn_none a.frame.layout h a.frame.indices a.directions.now a.phases.now a.rows.now c.requires.1;
       phases_room = c.requires.1;
       rows_room = c.requires.2;
       phases_long = refl;
@@ -57,4 +57,4 @@ shape_of-rows c = c.loop-e.invariant.rows_long
 
 pub returns : goal.returns
 returns c =
-    turn_all (c.loop-e.invariant.turn c.args.header c.modes_of-modes.ensures refl) c.args.count (omega (arith, c.loop-e.invariant.within, c.loop-e-test.false))
+    turn_all (c.loop-e.invariant.turn c.args.frame.header c.modes_of-modes.ensures refl) c.args.count (omega (arith, c.loop-e.invariant.within, c.loop-e-test.false))

@@ -69,10 +69,10 @@ less n b h = omega arith
 
 pub loop-b-init : goal.loop-b-init
 loop-b-init c =
-    let bands : c.bands-bands.result ≡ bands_of c.args.layout = c.bands-bands.ensures in
+    let bands : c.bands-bands.result ≡ bands_of c.args.border.layout = c.bands-bands.ensures in
     record {
       within = omega arith;
-      few = omega (arith, (bounds c.args.layout).bands);
+      few = omega (arith, (bounds c.args.border.layout).bands);
       early = c.requires.0;
       phases_room = omega (arith, c.requires.1);
       rows_room = omega (arith, c.requires.2);
@@ -105,7 +105,7 @@ pub loop-b-preserved : goal.loop-b-preserved
 loop-b-preserved c =
     let v = c.loop-b.invariant in
     let b = c.loop-b.b in
-    let cues = c.args.cues in
+    let cues = c.args.border.cues in
     let iid = back w8 (get_or cues.iid b (pos 0)) (search rules) in
     let icc = back w8 (get_or cues.icc b (pos 0)) (search rules) in
     let ipd = back w8 (get_or cues.ipd b (pos 0)) (search rules) in
@@ -125,5 +125,5 @@ pub returns : goal.returns
 unfolding rows_then kept_then
 returns c =
     let v = c.loop-b.invariant in
-    let all : c.loop-b.b ≡ bands_of c.args.layout = omega (arith, v.within, c.loop-b-test.false, c.bands-bands.ensures) in
+    let all : c.loop-b.b ≡ bands_of c.args.border.layout = omega (arith, v.within, c.loop-b-test.false, c.bands-bands.ensures) in
     record { phases = v.moved.front.is ∙ rw all; rows = v.written.front.is ∙ rw all }

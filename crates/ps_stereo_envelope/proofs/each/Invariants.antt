@@ -40,7 +40,7 @@ pub record Inv (coefficients directions : List ℤ) (modes : Modes) (cues : Cues
   pub rows_long : length rows ≡ length rows₀
 
 abbrev pub invariant-loop-b : goal.invariant-loop-b
-invariant-loop-b l = Inv l.coefficients l.directions l.modes l.cues l.e l.bands l.initial.phases l.initial.rows l.phases l.rows l.b
+invariant-loop-b l = Inv l.tables.coefficients.now l.tables.directions.now l.modes l.cues l.e l.bands l.initial.phases l.initial.rows l.phases l.rows l.b
 
 abbrev pub decreases-loop-b : goal.decreases-loop-b
 decreases-loop-b l = l.bands - l.b

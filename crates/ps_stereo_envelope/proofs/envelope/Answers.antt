@@ -9,40 +9,21 @@ use Rattle.layout.proofs.Bounds.{bounds}
 use Rattle.limits.specs.Limits as limits
 use Rattle.ps_stereo_envelope.proofs.Fits as fits
 use Rattle.ps_stereo_envelope.proofs.envelope.Goals as goal
+use Rattle.ps_stereo_envelope.proofs.envelope.Goals.{then-e-ge-ENVELOPES-via-then-e-ge-ENVELOPES, then-e-ge-ENVELOPES-via-else-e-ge-ENVELOPES+then-phases-bands, then-e-ge-ENVELOPES-via-else-e-ge-ENVELOPES+else-phases-bands+then-rows-bands}
 
 pub returns-then-e-ge-ENVELOPES : goal.returns-then-e-ge-ENVELOPES
 returns-then-e-ge-ENVELOPES c =
     let a = c.args in
-    let p = fits.late a.coefficients.now a.directions.now a.layout a.modes a.cues a.phases.now a.e a.rows.now c.if-e-ge-ENVELOPES.true in record { phases = p.0; rows = p.1 }
-
-pub overflow_mul-bands : goal.overflow_mul-bands
-overflow_mul-bands c =
-    let few : c.bands-bands.result ≤ 34 = omega (arith, c.bands-bands.ensures, (bounds c.args.layout).bands) in
-    omega (arith, few)
-
-pub returns-then-phases-bands : goal.returns-then-phases-bands
-returns-then-phases-bands c =
-    let a = c.args in
-    let short : length a.phases.now < 4 * bands_of a.layout = omega (arith, c.bands-bands.ensures, c.if-phases-bands.true) in
-    let p = fits.no_phases a.coefficients.now a.directions.now a.layout a.modes a.cues a.phases.now a.e a.rows.now c.if-e-ge-ENVELOPES.false short in record { phases = p.0; rows = p.1 }
-
-pub overflow_mul-bands-2 : goal.overflow_mul-bands-2
-overflow_mul-bands-2 c =
-    let few : c.bands-bands.result ≤ 34 = omega (arith, c.bands-bands.ensures, (bounds c.args.layout).bands) in
-    omega (arith, few)
-
-pub returns-then-rows-bands : goal.returns-then-rows-bands
-returns-then-rows-bands c =
-    let long : let a = c.args in 4 * bands_of a.layout ≤ length a.phases.now = omega (arith, c.bands-bands.ensures, c.if-phases-bands.false) in
-    let a = c.args in
-    let short : length a.rows.now < limits.course * bands_of a.layout = omega (arith, c.bands-bands.ensures, c.if-rows-bands.true) in
-    let p = fits.no_rows a.coefficients.now a.directions.now a.layout a.modes a.cues a.phases.now a.e a.rows.now c.if-e-ge-ENVELOPES.false long short in record { phases = p.0; rows = p.1 }
-
-pub each-requires : goal.each-requires
-each-requires c =
-    let long : let a = c.args in 4 * bands_of a.layout ≤ length a.phases.now = omega (arith, c.bands-bands.ensures, c.if-phases-bands.false) in
-    let room : let a = c.args in limits.course * bands_of a.layout ≤ length a.rows.now = omega (arith, c.bands-bands.ensures, c.if-rows-bands.false) in
-    (c.if-e-ge-ENVELOPES.false, long, room)
+    let bands = c.bands-bands.ensures in
+    let kept : fits.Kept a.coefficients.now a.directions.now a.layout a.modes a.cues a.phases.now a.e a.rows.now =
+    elim c.then-e-ge-ENVELOPES.branch [
+      | then-e-ge-ENVELOPES-via-then-e-ge-ENVELOPES w ↦ fits.late _ _ _ _ _ _ _ _ w.if-e-ge-ENVELOPES.true
+      | then-e-ge-ENVELOPES-via-else-e-ge-ENVELOPES+then-phases-bands w ↦
+          fits.no_phases _ _ _ _ _ _ _ _ w.if-e-ge-ENVELOPES.false (omega (arith, bands, w.if-phases-bands.true))
+      | then-e-ge-ENVELOPES-via-else-e-ge-ENVELOPES+else-phases-bands+then-rows-bands w ↦
+          fits.no_rows _ _ _ _ _ _ _ _ w.if-e-ge-ENVELOPES.false (omega (arith, bands, w.if-phases-bands.false)) (omega (arith, bands, w.if-rows-bands.true))
+    ] in
+    record { phases = kept.0; rows = kept.1 }
 
 pub returns : goal.returns
 returns c =

@@ -39,22 +39,22 @@ loop-e-preserved c =
     let v = c.loop-e.invariant in
     let next = c.from-next.ensures ∙ c.after.ensures.0 in
     let end = c.min.ensures ∙ ap (λ (k : ℕ). min k s.slots) next in
-    let lent = part (32 * c.loop-e.e) (32 * c.loop-e.e + 32 - 32 * c.loop-e.e) s.fractions.now in
+    let lent = part (32 * c.loop-e.e) (32 * c.loop-e.e + 32 - 32 * c.loop-e.e) s.ways.fractions.now in
     record {
       within = omega arith;
       coefficients = c.matrix_at-to.ensures;
-      place = next ∙ start_next s.borders c.loop-e.e;
+      place = next ∙ start_next s.ways.borders c.loop-e.e;
       filled =
-          region_filled s.borders (fraction_at s.fractions.now) (row_matrix s.rows.now s.at) s.slots s.out.now _ v.filled c.loop-e.from
+          region_filled s.ways.borders (fraction_at s.ways.fractions.now) (row_matrix s.rows.now s.at) s.slots s.out.now _ v.filled c.loop-e.from
           c.matrix_at-to.result lent c.loop-e.first c.min.result v.coefficients c.matrix_at-to.ensures v.place end
-          (λ n u. lent_fraction s.fractions.now c.loop-e.e n u) c.region.ensures;
+          (λ n u. lent_fraction s.ways.fractions.now c.loop-e.e n u) c.region.ensures;
     }
 
 pub returns : goal.returns
 returns c =
     let s = c.args in
     let v = c.loop-e.invariant in
-    let all : c.loop-e.e ≡ s.count = omega (arith, v.within) in
+    let all : c.loop-e.e ≡ s.ways.count = omega (arith, v.within) in
     rw (← all)
-    (filled_held s.borders (fraction_at s.fractions.now) (row_matrix s.rows.now s.at) s.slots s.out.now _ v.filled c.loop-e.from
+    (filled_held s.ways.borders (fraction_at s.ways.fractions.now) (row_matrix s.rows.now s.at) s.slots s.out.now _ v.filled c.loop-e.from
     c.loop-e.first v.coefficients v.place c.hold.ensures)

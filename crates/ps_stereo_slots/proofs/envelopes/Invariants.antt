@@ -21,7 +21,7 @@ pub record Inv (rows : List Float) (at : ℕ) (fractions : List Float) (borders 
   pub filled : Filled borders (fraction_at fractions) (row_matrix rows at) slots old e out
 
 abbrev pub invariant-loop-e : goal.invariant-loop-e
-invariant-loop-e l = Inv l.rows l.at l.fractions l.borders l.count l.slots l.initial.out l.out l.from l.first l.e
+invariant-loop-e l = Inv l.rows l.at l.ways.fractions.now l.borders l.count l.slots l.initial.out l.out l.from l.first l.e
 
 abbrev pub decreases-loop-e : goal.decreases-loop-e
 decreases-loop-e l = l.count - l.e

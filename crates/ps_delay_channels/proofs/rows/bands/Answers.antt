@@ -27,15 +27,15 @@ weigh-requires c =
     let delayed_long : length c.if-n-delay.delayed.now ≡ k = elim c.if-n-delay.branch [
       | then-n-delay w ↦
           let then = 24 * ((d.position + n) % 14) + 2 * (a.span.from - d.first) in
-          ap (λ (b : Bor (List Float)). length b.now) w.delayed-is ∙ lent_long then k (then + k - then) a.before.now (width then k) (row_room n c.requires.frame.1 w.if-n-delay.true)
+          ap (λ (b : Bor (List Float)). length b.now) w.delayed-is ∙ lent_long then k (then + k - then) a.span.before.now (width then k) (row_room n c.requires.frame.1 w.if-n-delay.true)
       | else-n-delay w ↦
           let then = 128 * (n - d.slots) + 2 * a.span.from in
-          ap (λ (b : Bor (List Float)). length b.now) w.delayed-is ∙ lent_long then k (then + k - then) a.input.now (width then k) (omega arith)
+          ap (λ (b : Bor (List Float)). length b.now) w.delayed-is ∙ lent_long then k (then + k - then) a.lent.input.now (width then k) (omega arith)
     ] in
     record {
       slot = omega arith;
       samples_len = (
-        lent_long at k (at + k - at) a.input.now (width at k) (omega arith),
+        lent_long at k (at + k - at) a.lent.input.now (width at k) (omega arith),
         delayed_long,
         lent_long at k (at + k - at) c.loop-n.left (width at k) (omega (arith, c.loop-n.invariant.lefts.long)),
         lent_long at k (at + k - at) c.loop-n.right (width at k) (omega (arith, c.loop-n.invariant.rights.long)),
@@ -57,29 +57,29 @@ loop-n-preserved c =
     elim c.if-n-delay.branch [
       | then-n-delay w ↦
           let then = 24 * ((d.position + n) % 14) + 2 * (from - d.first) in
-          let now : c.if-n-delay.delayed.now ≡ part then (then + k - then) a.before.now = ap (λ (b : Bor (List Float)). b.now) w.delayed-is in
+          let now : c.if-n-delay.delayed.now ≡ part then (then + k - then) a.span.before.now = ap (λ (b : Bor (List Float)). b.now) w.delayed-is in
           record {
             reached = omega (arith, more);
             lefts =
-                banding_kept left_of a.runs.now a.gains.now a.input.now a.before.now d from count a.slots
+                banding_kept left_of a.runs.now a.lent.gains.now a.lent.input.now a.span.before.now d from count a.slots
                 c.loop-n.invariant.lefts rows frame.left_long more (at + k - at) (then + k - then) (width at k) (width then k)
                 c.weigh.new.left c.weigh.auto.left w.if-n-delay.true (rw now at c.weigh.ensures.left);
             rights =
-                banding_kept right_of a.runs.now a.gains.now a.input.now a.before.now d from count a.slots
+                banding_kept right_of a.runs.now a.lent.gains.now a.lent.input.now a.span.before.now d from count a.slots
                 c.loop-n.invariant.rights rows frame.right_long more (at + k - at) (then + k - then) (width at k) (width then k)
                 c.weigh.new.right c.weigh.auto.right w.if-n-delay.true (rw now at c.weigh.ensures.right);
           }
       | else-n-delay w ↦
           let then = 128 * (n - d.slots) + 2 * from in
-          let now : c.if-n-delay.delayed.now ≡ part then (then + k - then) a.input.now = ap (λ (b : Bor (List Float)). b.now) w.delayed-is in
+          let now : c.if-n-delay.delayed.now ≡ part then (then + k - then) a.lent.input.now = ap (λ (b : Bor (List Float)). b.now) w.delayed-is in
           record {
             reached = omega (arith, more);
             lefts =
-                banding_came left_of a.runs.now a.gains.now a.input.now a.before.now d from count a.slots
+                banding_came left_of a.runs.now a.lent.gains.now a.lent.input.now a.span.before.now d from count a.slots
                 c.loop-n.invariant.lefts rows frame.left_long more (at + k - at) (then + k - then) (width at k) (width then k)
                 c.weigh.new.left c.weigh.auto.left w.if-n-delay.false (rw now at c.weigh.ensures.left);
             rights =
-                banding_came right_of a.runs.now a.gains.now a.input.now a.before.now d from count a.slots
+                banding_came right_of a.runs.now a.lent.gains.now a.lent.input.now a.span.before.now d from count a.slots
                 c.loop-n.invariant.rights rows frame.right_long more (at + k - at) (then + k - then) (width at k) (width then k)
                 c.weigh.new.right c.weigh.auto.right w.if-n-delay.false (rw now at c.weigh.ensures.right);
           }

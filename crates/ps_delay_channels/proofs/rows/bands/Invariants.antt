@@ -16,7 +16,7 @@ pub record Inv (runs gains input before : List Float) (d : Delay) (from count sl
   pub rights : Banding from count slots (mixing right_of runs gains input before d from count slots) right₀ right n
 
 abbrev pub invariant-loop-n : goal.invariant-loop-n
-invariant-loop-n l = Inv l.runs l.gains l.input l.before l.delay l.from l.count l.slots l.initial.left l.initial.right l.left l.right l.n
+invariant-loop-n l = Inv l.runs l.lent.gains.now l.lent.input.now l.span.before.now l.delay l.from l.count l.slots l.initial.left l.initial.right l.left l.right l.n
 
 abbrev pub decreases-loop-n : goal.decreases-loop-n
 decreases-loop-n l = l.slots - l.n

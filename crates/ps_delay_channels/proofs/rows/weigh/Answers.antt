@@ -26,17 +26,17 @@ pub loop-j-preserved : goal.loop-j-preserved
 loop-j-preserved c =
     let a = c.args in
     let j = c.loop-j.j in
-    let few : a.n < 32 = c.requires.slot in
+    let few : a.slot.n < 32 = c.requires.slot in
     let more : j < a.count = c.loop-j-test.true in
-    let x = cell 1 a.samples.now (2 * j) in
-    let z = scaled (cell 1 a.delayed.now (2 * j)) a.factor in
+    let x = cell 1 a.slot.samples.now (2 * j) in
+    let z = scaled (cell 1 a.slot.delayed.now (2 * j)) a.slot.factor in
     record {
       within = omega (arith, more);
       lefts =
-          paired_more c.loop-j.invariant.lefts (left_drawn a.runs.now a.n few x z) (left_drawn_lem a.runs.now a.n few x z)
+          paired_more c.loop-j.invariant.lefts (left_drawn a.runs.now a.slot.n few x z) (left_drawn_lem a.runs.now a.slot.n few x z)
           (omega (arith, more, c.requires.samples_len.2));
       rights =
-          paired_more c.loop-j.invariant.rights (right_drawn a.runs.now a.n few x z) (right_drawn_lem a.runs.now a.n few x z)
+          paired_more c.loop-j.invariant.rights (right_drawn a.runs.now a.slot.n few x z) (right_drawn_lem a.runs.now a.slot.n few x z)
           (omega (arith, more, c.requires.samples_len.3));
     }
 

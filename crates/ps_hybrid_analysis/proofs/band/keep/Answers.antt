@@ -13,7 +13,7 @@ use Rattle.ps_hybrid_analysis.proofs.band.keep.Goals as goal
 pub returns : goal.returns
 returns c =
     let band = c.args.band.now in
-    let slots = c.args.slots in
+    let slots = c.args.slots.count in
     let re = c.copy_from_slice.ensures.after in
     let im = c.copy_from_slice-2.ensures.after in
     pasted_all 6 (λ j. cell 44 band (slots + j)) c.args.history.now c.copy_from_slice.new.self c.copy_from_slice-2.new.self (omega (arith, c.requires))

@@ -29,5 +29,5 @@ shape_of-run c = c.loop-n.invariant.filled.long
 
 pub returns : goal.returns
 returns c =
-    let all : c.loop-n.n ≡ c.args.slots = omega arith in
-    rw all at (filled_planar c.loop-n.invariant.filled c.requires.0)
+    let all : c.loop-n.n ≡ c.args.band.slots.count = omega arith in
+    rw all at (filled_planar c.loop-n.invariant.filled c.requires)

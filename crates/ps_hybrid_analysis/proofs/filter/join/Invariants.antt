@@ -6,7 +6,7 @@ use Rattle.ps_hybrid_analysis.proofs.Taps.{convolved}
 use Rattle.ps_hybrid_analysis.proofs.filter.join.Given as goal
 
 abbrev pub invariant-loop-n : goal.invariant-loop-n
-invariant-loop-n l = Filling 32 l.slots (λ i. sum (cell 32 l.initial.run i) (convolved (cell 13 l.taps) (cell 44 l.band) i 13)) l.initial.run l.run l.n
+invariant-loop-n l = Filling 32 l.band.slots.count (λ i. sum (cell 32 l.initial.run i) (convolved (cell 13 l.taps) (cell 44 l.band.run.now) i 13)) l.initial.run l.run l.n
 
 abbrev pub decreases-loop-n : goal.decreases-loop-n
-decreases-loop-n l = l.slots - l.n
+decreases-loop-n l = l.band.slots.count - l.n
