@@ -81,7 +81,7 @@ frame-requires c =
       left_long = c.if-left-slots.false;
       right_long = c.if-right-slots.false;
     } in
-    roomy
+    record { map_value = c.parameter_map.ensures; room = roomy }
 
 pub returns : goal.returns
 returns c =
