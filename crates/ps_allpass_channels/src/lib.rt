@@ -162,25 +162,14 @@ pub fn allpass_channels(
 {
     let slots = timing.slots.min(32);
     let bands = layout.bands();
-    if left.len() != 128 * slots {
-        return;
-    }
-    if right.len() != 128 * slots {
-        return;
-    }
-    if input.len() < 128 * slots {
-        return;
-    }
-    if samples.len() < 64 * layout.unsplit_from() {
-        return;
-    }
-    if gains.len() < 32 * bands {
-        return;
-    }
-    if rows.len() < limits::COURSE * bands {
-        return;
-    }
-    if delays.len() < 112 * layout.groups() {
+    if left.len() != 128 * slots
+        || right.len() != 128 * slots
+        || input.len() < 128 * slots
+        || samples.len() < 64 * layout.unsplit_from()
+        || gains.len() < 32 * bands
+        || rows.len() < limits::COURSE * bands
+        || delays.len() < 112 * layout.groups()
+    {
         return;
     }
     let within = Timing {
