@@ -47,6 +47,7 @@ pub fn byte_at(b: &[u8], at: usize) -> u8
     b.get(at).copied().unwrap_or(0)
 }
 
+// Kept: a function for each width, since `from_le_bytes` is each type's own and of no trait; `bytes_at` has what is common.
 pub fn half_at(b: &[u8], at: usize) -> u32
     ensures { result ≡ half_at b.now at }
 {
@@ -78,7 +79,7 @@ fn spill(xs: &[f64], out: &mut [u8])
     }
 }
 
-// Kept: a `bool`, which the definitions `filled` and `written` speak of by `moved`.
+// Kept: a `bool`, for `moved` of the definition `filled` has it, and both callers hand on rows that fit and need no answer.
 // Reads a row of floats. True exactly if there are eight bytes to a float; otherwise nothing is written.
 #[tactic(auto, unfolding(crate::specs::Bytes::filled))]
 pub fn read_floats(b: &[u8], out: &mut [f64]) -> bool
@@ -91,6 +92,7 @@ pub fn read_floats(b: &[u8], out: &mut [f64]) -> bool
     true
 }
 
+// Kept: a `bool`, for `moved` of the definition `written` has it, and its caller hands on a row that fits.
 // Writes a row of floats. True exactly if there are eight bytes to a float; otherwise nothing is written.
 #[tactic(auto, unfolding(crate::specs::Bytes::written))]
 pub fn write_floats(xs: &[f64], out: &mut [u8]) -> bool

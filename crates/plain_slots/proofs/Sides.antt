@@ -83,7 +83,7 @@ module _ (l : Layout) (n : ℕ) (runs samples decorrelated left right : List Flo
       ltb n 32 && leb (256 * bands_of l) (length runs) && leb numbers (length samples) && leb numbers (length decorrelated) && leb numbers (length left)
       && leb numbers (length right)
 
-  abbrev New : List Float → List Float → Type 0
+  abbrev pub New : List Float → List Float → Type 0
   New new-left new-right =
       (new-left ≡ left_after l n runs samples decorrelated left right) × (new-right ≡ right_after l n runs samples decorrelated left right)
 

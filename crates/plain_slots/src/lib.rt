@@ -22,16 +22,11 @@ pub fn samples(layout: Layout, n: usize, split: &[f64], input: &[f64], row: &mut
     let unsplit = layout.unsplit_from();
     let bands = layout.split();
     let channels = layout.channels();
-    if 31 < n {
-        return;
-    }
-    if split.len() < 64 * unsplit {
-        return;
-    }
-    if input.len() < 128 * n + 128 {
-        return;
-    }
-    if row.len() < 2 * channels {
+    if 31 < n
+        || split.len() < 64 * unsplit
+        || input.len() < 128 * n + 128
+        || row.len() < 2 * channels
+    {
         return;
     }
     for k in 0..unsplit {
@@ -103,22 +98,13 @@ pub fn mix(
 {
     let channels = layout.channels();
     let numbers = 2 * channels;
-    if 31 < n {
-        return;
-    }
-    if runs.len() < 256 * layout.bands() {
-        return;
-    }
-    if samples.len() < numbers {
-        return;
-    }
-    if decorrelated.len() < numbers {
-        return;
-    }
-    if left.len() < numbers {
-        return;
-    }
-    if right.len() < numbers {
+    if 31 < n
+        || runs.len() < 256 * layout.bands()
+        || samples.len() < numbers
+        || decorrelated.len() < numbers
+        || left.len() < numbers
+        || right.len() < numbers
+    {
         return;
     }
     for k in 0..channels {
@@ -147,10 +133,7 @@ fn added(hybrid: &[f64], from: usize, count: usize) -> Complex
 pub fn synthesise(layout: Layout, hybrid: &[f64], row: &mut [f64])
     ensures { row.new ≡ qmf_after layout hybrid.now row.old }
 {
-    if hybrid.len() < 2 * layout.channels() {
-        return;
-    }
-    if row.len() < 128 {
+    if hybrid.len() < 2 * layout.channels() || row.len() < 128 {
         return;
     }
     let split = layout.split();

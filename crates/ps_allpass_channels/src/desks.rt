@@ -18,6 +18,18 @@ use standard::Chain;
 // 13 desks of 136 numbers.
 pub const DESKS: usize = 13 * 136;
 
+// What a frame's channels read: the layout and its map of channels to bands, the samples of the split bands, the ducking factors, the coefficients at the
+// borders, and the input.
+#[derive(Clone, Copy)]
+pub struct Lent<'a> {
+    pub layout: Layout,
+    pub map: &'a [u8; 91],
+    pub samples: &'a [f64],
+    pub gains: &'a [f64],
+    pub rows: &'a [f64],
+    pub input: &'a [f64],
+}
+
 // The constants of channel k's chain. Those of the channels before it stay.
 fn lay_chain(chain: Chain, k: usize, desks: &mut [f64; DESKS])
     requires { k < 52 }
@@ -234,24 +246,16 @@ fn enter_ducks(layout: Layout, map: &[u8; 91], gains: &[f64], n: usize, desks: &
 }
 
 // What every channel takes in slot n.
-pub fn enter(
-    layout: Layout,
-    map: &[u8; 91],
-    samples: &[f64],
-    gains: &[f64],
-    input: &[f64],
-    n: usize,
-    desks: &mut [f64; DESKS],
-)
-    requires map_value { (map.now ≡ parameter_map layout) × ((n < 32) × (128 * n + 128 ≤ length input.now)) }
-    requires layout_in_bounds { (64 * unsplit_from_of layout ≤ length samples.now) × (32 * bands_of layout ≤ length gains.now) }
-    ensures samples { Lies layout sample_on desks.new (sample_in layout samples.now input.now n) }
-    ensures ducks { Lies layout duck_on desks.new (λ k. get_or gains.now (32 * band_of layout k + n) nan) }
-    ensures chains { Lies layout chain_on desks.new (desk_of chain_on desks.old) }
-    ensures from { Lies layout from_on desks.new (desk_of from_on desks.old) }
-    ensures step { Lies layout step_on desks.new (desk_of step_on desks.old) }
+pub fn enter(lent: Lent, n: usize, desks: &mut [f64; DESKS])
+    requires map_value { (lent.map.now ≡ parameter_map lent.layout) × ((n < 32) × (128 * n + 128 ≤ length lent.input.now)) }
+    requires layout_in_bounds { (64 * unsplit_from_of lent.layout ≤ length lent.samples.now) × (32 * bands_of lent.layout ≤ length lent.gains.now) }
+    ensures samples { Lies lent.entry.layout sample_on desks.new (sample_in lent.entry.layout lent.entry.samples.now lent.entry.input.now n) }
+    ensures ducks { Lies lent.entry.layout duck_on desks.new (λ k. get_or lent.entry.gains.now (32 * band_of lent.entry.layout k + n) nan) }
+    ensures chains { Lies lent.entry.layout chain_on desks.new (desk_of chain_on desks.old) }
+    ensures from { Lies lent.entry.layout from_on desks.new (desk_of from_on desks.old) }
+    ensures step { Lies lent.entry.layout step_on desks.new (desk_of step_on desks.old) }
 {
-    enter_split(layout.unsplit_from(), samples, n, desks);
-    enter_row(layout, input, n, desks);
-    enter_ducks(layout, map, gains, n, desks);
+    enter_split(lent.layout.unsplit_from(), lent.samples, n, desks);
+    enter_row(lent.layout, lent.input, n, desks);
+    enter_ducks(lent.layout, lent.map, lent.gains, n, desks);
 }

@@ -18,23 +18,13 @@ ghost use Rattle.ps_allpass_channels.specs.Channels.{channel_then, side_rows, le
 ghost use Rattle.ps_allpass_channels.specs.Desks.{desk_of, Lies, Wayed};
 ghost use Rattle.ps_allpass_channels.specs.Slots.{Passed, Roomy, Reached};
 
-use desks::DESKS;
+use desks::{DESKS, Lent};
 use layout::Layout;
 use ps_stereo_slots::Timing;
-
-// What a frame's channels read: the samples of the split bands, the ducking factors, the coefficients at the borders, and the input.
-#[derive(Clone, Copy)]
-struct Lent<'a> {
-    samples: &'a [f64],
-    gains: &'a [f64],
-    rows: &'a [f64],
-    input: &'a [f64],
-}
 
 // What is said of a slot: that it is slot n of the frame, that `turn` slots came before it, and how far it lies on its way, or that it is held.
 #[derive(Clone, Copy)]
 struct Moment {
-    layout: Layout,
     n: usize,
     turn: usize,
     t: f64,
@@ -44,52 +34,54 @@ struct Moment {
 // One slot; its region's coefficients are on the desks.
 fn slot(
     moment: Moment,
-    map: &[u8; 91],
     lent: Lent,
     desks: &mut [f64; DESKS],
     delays: &mut [f64],
     left: &mut [f64],
     right: &mut [f64],
 )
-    requires map_value { (map.now ≡ parameter_map moment.layout) × (moment.n < 32) × (128 * moment.n + 128 ≤ length lent.input.now) }
-    requires layout_in_bounds { (64 * unsplit_from_of moment.layout ≤ length lent.samples.now) × (32 * bands_of moment.layout ≤ length lent.gains.now) }
-    requires delays_len { 112 * groups_of moment.layout ≤ length delays.old }
+    requires map_value { (lent.map.now ≡ parameter_map lent.layout) × (moment.n < 32) × (128 * moment.n + 128 ≤ length lent.input.now) }
+    requires layout_in_bounds { (64 * unsplit_from_of lent.layout ≤ length lent.samples.now) × (32 * bands_of lent.layout ≤ length lent.gains.now) }
+    requires delays_len { 112 * groups_of lent.layout ≤ length delays.old }
     requires n_in_bounds { (128 * moment.n + 128 ≤ length left.old) × (128 * moment.n + 128 ≤ length right.old) }
-    ensures { Passed moment.layout lent.entry.samples.now lent.entry.gains.now lent.entry.input.now moment.n moment.turn moment.t moment.held desks.old delays.old left.old right.old desks.new delays.new left.new right.new }
+    ensures { Passed lent.entry.layout lent.entry.samples.now lent.entry.gains.now lent.entry.input.now moment.n moment.turn moment.t moment.held desks.old delays.old left.old right.old desks.new delays.new left.new right.new }
 {
-    let layout = moment.layout;
-    let n = moment.n;
-    desks::enter(layout, map, lent.samples, lent.gains, lent.input, n, desks);
-    ps_allpass_groups::groups(layout, delays, desks, moment.turn, moment.t, moment.held);
-    rows::leave(layout, desks, n, left, right);
+    desks::enter(lent, moment.n, desks);
+    ps_allpass_groups::groups(
+        lent.layout,
+        delays,
+        desks,
+        moment.turn,
+        moment.t,
+        moment.held,
+    );
+    rows::leave(lent.layout, desks, moment.n, left, right);
 }
 
 // The coefficients of a region onto the desks, unless they are there. Behind the last border they are held.
-fn begin(
-    layout: Layout,
-    map: &[u8; 91],
-    rows: &[f64],
-    count: usize,
-    region: usize,
-    old: Option<usize>,
-    desks: &mut [f64; DESKS],
-)
-    requires map_value { (map.now ≡ parameter_map layout) × (limits.course * bands_of layout ≤ length rows.now) }
-    requires region_le_count { (region ≤ count) × (count ≤ limits.envelopes) × ((e : ℕ) → old ≡ Some e → Wayed layout rows.now e (min (e + 1) count) desks.old) }
-    ensures way { Wayed layout rows.now region (min (region + 1) count) desks.new }
-    ensures chains { Lies layout chain_on desks.new (desk_of chain_on desks.old) }
+fn begin(lent: Lent, count: usize, region: usize, old: Option<usize>, desks: &mut [f64; DESKS])
+    requires map_value { (lent.map.now ≡ parameter_map lent.layout) × (limits.course * bands_of lent.layout ≤ length lent.rows.now) }
+    requires region_le_count { (region ≤ count) × (count ≤ limits.envelopes) × ((e : ℕ) → old ≡ Some e → Wayed lent.layout lent.rows.now e (min (e + 1) count) desks.old) }
+    ensures way { Wayed lent.entry.layout lent.entry.rows.now region (min (region + 1) count) desks.new }
+    ensures chains { Lies lent.entry.layout chain_on desks.new (desk_of chain_on desks.old) }
 {
     if let Some(there) = old
         && there == region
     {
         return;
     }
-    desks::ways(layout, map, rows, region, (region + 1).min(count), desks);
+    desks::ways(
+        lent.layout,
+        lent.map,
+        lent.rows,
+        region,
+        (region + 1).min(count),
+        desks,
+    );
 }
 
 // The slots of a frame, whose turn is below 420. The constants are on the desks.
 fn run(
-    layout: Layout,
     timing: Timing,
     lent: Lent,
     desks: &mut [f64; DESKS],
@@ -97,26 +89,25 @@ fn run(
     left: &mut [f64],
     right: &mut [f64],
 )
-    requires { Roomy layout timing lent.samples.now lent.gains.now lent.rows.now lent.input.now delays.old left.old right.old }
-    ensures { (table : List ℤ) → Lies layout chain_on desks.old (chain_from table layout)
-        → Reached layout timing table lent.entry.samples.now lent.entry.gains.now lent.entry.rows.now lent.entry.input.now delays.old timing.slots left.old right.old delays.new left.new right.new }
+    requires map_value { lent.map.now ≡ parameter_map lent.layout }
+    requires room { Roomy lent.layout timing lent.samples.now lent.gains.now lent.rows.now lent.input.now delays.old left.old right.old }
+    ensures { (table : List ℤ) → Lies lent.entry.layout chain_on desks.old (chain_from table lent.entry.layout)
+        → Reached lent.entry.layout timing table lent.entry.samples.now lent.entry.gains.now lent.entry.rows.now lent.entry.input.now delays.old timing.slots left.old right.old delays.new left.new right.new }
 {
-    let map = ps_map::parameter_map(layout);
     let count = timing.count.min(limits::ENVELOPES);
     // The region whose coefficients are on the desks.
     let mut region = None;
     for n in 0..timing.slots {
         let next = ps_stereo_slots::region_in(timing, n);
-        begin(layout, &map, lent.rows, count, next, region, desks);
+        begin(lent, count, next, region, desks);
         region = Some(next);
         let moment = Moment {
-            layout,
             n,
             turn: timing.turn + n,
             t: ps_stereo_slots::share_in(timing, next, n),
             held: next == count,
         };
-        slot(moment, &map, lent, desks, delays, left, right);
+        slot(moment, lent, desks, delays, left, right);
     }
 }
 
@@ -132,7 +123,6 @@ fn silence_free(layout: Layout, delays: &mut [f64])
 
 // A frame with room in every list, of at most 32 slots and with a turn below 420.
 fn frame(
-    layout: Layout,
     timing: Timing,
     table: &[i64],
     lent: Lent,
@@ -140,16 +130,17 @@ fn frame(
     left: &mut [f64],
     right: &mut [f64],
 )
-    requires { Roomy layout timing lent.samples.now lent.gains.now lent.rows.now lent.input.now delays.old left.old right.old }
-    ensures left { left.new ≡ side_rows layout timing table.now lent.entry.samples.now lent.entry.gains.now lent.entry.rows.now lent.entry.input.now delays.old left_of timing.slots left.old }
-    ensures right { right.new ≡ side_rows layout timing table.now lent.entry.samples.now lent.entry.gains.now lent.entry.rows.now lent.entry.input.now delays.old right_of timing.slots right.old }
-    ensures delays { delays.new ≡ delays_with layout (timing.turn + timing.slots)
-        (λ k. channel_then layout timing table.now lent.entry.samples.now lent.entry.gains.now lent.entry.rows.now lent.entry.input.now delays.old k timing.slots) delays.old }
+    requires map_value { lent.map.now ≡ parameter_map lent.layout }
+    requires room { Roomy lent.layout timing lent.samples.now lent.gains.now lent.rows.now lent.input.now delays.old left.old right.old }
+    ensures left { left.new ≡ side_rows lent.entry.layout timing table.now lent.entry.samples.now lent.entry.gains.now lent.entry.rows.now lent.entry.input.now delays.old left_of timing.slots left.old }
+    ensures right { right.new ≡ side_rows lent.entry.layout timing table.now lent.entry.samples.now lent.entry.gains.now lent.entry.rows.now lent.entry.input.now delays.old right_of timing.slots right.old }
+    ensures delays { delays.new ≡ delays_with lent.entry.layout (timing.turn + timing.slots)
+        (λ k. channel_then lent.entry.layout timing table.now lent.entry.samples.now lent.entry.gains.now lent.entry.rows.now lent.entry.input.now delays.old k timing.slots) delays.old }
 {
     let mut desks = [0.0; DESKS];
-    desks::lay(layout, table, &mut desks);
-    run(layout, timing, lent, &mut desks, delays, left, right);
-    silence_free(layout, delays);
+    desks::lay(lent.layout, table, &mut desks);
+    run(timing, lent, &mut desks, delays, left, right);
+    silence_free(lent.layout, delays);
 }
 
 // What a frame's channels have in common is lent: rotations, samples, ducking factors, the coefficients at the borders, the input, and the delays.
@@ -171,25 +162,14 @@ pub fn allpass_channels(
 {
     let slots = timing.slots.min(32);
     let bands = layout.bands();
-    if left.len() != 128 * slots {
-        return;
-    }
-    if right.len() != 128 * slots {
-        return;
-    }
-    if input.len() < 128 * slots {
-        return;
-    }
-    if samples.len() < 64 * layout.unsplit_from() {
-        return;
-    }
-    if gains.len() < 32 * bands {
-        return;
-    }
-    if rows.len() < limits::COURSE * bands {
-        return;
-    }
-    if delays.len() < 112 * layout.groups() {
+    if left.len() != 128 * slots
+        || right.len() != 128 * slots
+        || input.len() < 128 * slots
+        || samples.len() < 64 * layout.unsplit_from()
+        || gains.len() < 32 * bands
+        || rows.len() < limits::COURSE * bands
+        || delays.len() < 112 * layout.groups()
+    {
         return;
     }
     let within = Timing {
@@ -198,10 +178,12 @@ pub fn allpass_channels(
         ..timing
     };
     let lent = Lent {
+        layout,
+        map: &ps_map::parameter_map(layout),
         samples,
         gains,
         rows,
         input,
     };
-    frame(layout, within, table, lent, delays, left, right);
+    frame(within, table, lent, delays, left, right);
 }

@@ -95,9 +95,8 @@ fn added(desks: &[f64; DESKS], place: usize, from: usize, end: usize) -> Complex
 }
 
 // One side's split bands.
-// Kept: a row is a slice here and below: an array's `try_from` of a `&mut` leaves open what the side has once the row is back.
-fn add_split(layout: Layout, desks: &[f64; DESKS], place: usize, row: &mut [f64])
-    requires { (place ≤ 128) × (length row.old ≡ 128) }
+fn add_split(layout: Layout, desks: &[f64; DESKS], place: usize, row: &mut [f64; 128])
+    requires { place ≤ 128 }
     ensures { Rowed (synthesised layout (standing desks.now place)) 0 (split_of layout) row.old row.new }
 {
     for p in 0..layout.split() {
@@ -113,8 +112,8 @@ fn add_split(layout: Layout, desks: &[f64; DESKS], place: usize, row: &mut [f64]
 }
 
 // QMF band q of a row.
-fn lay(row: &mut [f64], q: usize, y: Complex)
-    requires { (q < 64) × (length row.old ≡ 128) }
+fn lay(row: &mut [f64; 128], q: usize, y: Complex)
+    requires { q < 64 }
     ensures { Rowed (λ _. y) q (q + 1) row.old row.new }
 {
     row[2 * q] = y.re;
@@ -122,9 +121,9 @@ fn lay(row: &mut [f64], q: usize, y: Complex)
 }
 
 // The four channels of one desk, which stand from `at` on, as the four QMF bands from q on. All are read before the first is written.
-fn pass_four(desks: &[f64; DESKS], at: usize, row: &mut [f64], q: usize)
+fn pass_four(desks: &[f64; DESKS], at: usize, row: &mut [f64; 128], q: usize)
     requires at_bound { at ≤ 1760 }
-    requires q_bound { (q ≤ 60) × (length row.old ≡ 128) }
+    requires q_bound { q ≤ 60 }
     ensures { Rowed (λ p. cell 4 desks.now (at + (p - q))) q (q + 4) row.old row.new }
 {
     let a = lane(desks, at);
@@ -138,9 +137,9 @@ fn pass_four(desks: &[f64; DESKS], at: usize, row: &mut [f64], q: usize)
 }
 
 // The unsplit bands below 5: each is the channel `unsplit - split` above it.
-fn pass_low(desks: &[f64; DESKS], place: usize, split: usize, unsplit: usize, row: &mut [f64])
+fn pass_low(desks: &[f64; DESKS], place: usize, split: usize, unsplit: usize, row: &mut [f64; 128])
     requires split_bound { (split ≤ 5) × ((split ≤ unsplit) × (unsplit ≤ split + 27)) }
-    requires place_bound { (place ≤ 128) × (length row.old ≡ 128) }
+    requires place_bound { place ≤ 128 }
     ensures { Rowed (λ q. standing desks.now place (q + unsplit - split)) split 5 row.old row.new }
 {
     for q in split..5 {
@@ -150,8 +149,8 @@ fn pass_low(desks: &[f64; DESKS], place: usize, split: usize, unsplit: usize, ro
 }
 
 // Bands 5 to 20: the channels of four desks, one after the other.
-fn pass_desks(desks: &[f64; DESKS], first: usize, row: &mut [f64])
-    requires { (first ≤ 1352) × (length row.old ≡ 128) }
+fn pass_desks(desks: &[f64; DESKS], first: usize, row: &mut [f64; 128])
+    requires { first ≤ 1352 }
     ensures { Rowed (λ q. cell 4 desks.now (first + 136 * ((q - 5) / 4) + (q - 5) % 4)) 5 21 row.old row.new }
 {
     for j in 0..4 {
@@ -160,9 +159,15 @@ fn pass_desks(desks: &[f64; DESKS], first: usize, row: &mut [f64])
 }
 
 // Its other bands, up to the last of an all-pass channel. In both layouts band 5 is the first channel of a desk.
-fn pass_unsplit(desks: &[f64; DESKS], place: usize, split: usize, unsplit: usize, row: &mut [f64])
+fn pass_unsplit(
+    desks: &[f64; DESKS],
+    place: usize,
+    split: usize,
+    unsplit: usize,
+    row: &mut [f64; 128],
+)
     requires split_bound { (split ≤ 5) × ((split ≤ unsplit) × ((unsplit ≤ split + 27) × ((5 + unsplit - split) % 4 ≡ 0))) }
-    requires place_bound { (place ≤ 128) × (length row.old ≡ 128) }
+    requires place_bound { place ≤ 128 }
     ensures { Rowed (λ q. standing desks.now place (q + unsplit - split)) split 23 row.old row.new }
 {
     pass_low(desks, place, split, unsplit, row);
@@ -173,13 +178,15 @@ fn pass_unsplit(desks: &[f64; DESKS], place: usize, split: usize, unsplit: usize
     lay(row, 22, last);
 }
 
-// One side of a slot.
+// One side of a slot, whose row has 128 numbers.
 fn leave_side(layout: Layout, desks: &[f64; DESKS], place: usize, row: &mut [f64])
     requires { (place ≤ 128) × (length row.old ≡ 128) }
     ensures { Rowed (synthesised layout (standing desks.now place)) 0 23 row.old row.new }
 {
-    add_split(layout, desks, place, row);
-    pass_unsplit(desks, place, layout.split(), layout.unsplit_from(), row);
+    if let Some(bands) = row.as_mut_array::<128>() {
+        add_split(layout, desks, place, bands);
+        pass_unsplit(desks, place, layout.split(), layout.unsplit_from(), bands);
+    }
 }
 
 // Slot n of both sides.

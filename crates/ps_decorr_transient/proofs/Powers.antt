@@ -14,7 +14,6 @@ use Rattle.complex.specs.declared.Complex.{Complex}
 use Rattle.complex.specs.Operations.{squared_magnitude}
 use Rattle.layout.specs.declared.Layout.{Layout}
 use Rattle.layout.specs.Numbers.{bands_of, channels_of, split_of, unsplit_from_of}
-use Rattle.layout.proofs.Bounds.{bounds}
 use Rattle.lists.proofs.Parts.{part_at}
 use Rattle.planar.specs.Cells.{cell}
 use Rattle.planar.specs.Frame.{sample_at, qmf_at, sample_in}

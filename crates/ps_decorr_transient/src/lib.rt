@@ -196,16 +196,11 @@ pub fn duck(
 {
     let bands = layout.bands();
     let count = slots.min(32);
-    if input.len() < 128 * count {
-        return;
-    }
-    if samples.len() < 64 * layout.unsplit_from() {
-        return;
-    }
-    if gains.len() < 32 * bands {
-        return;
-    }
-    if detectors.len() < 3 * bands {
+    if input.len() < 128 * count
+        || samples.len() < 64 * layout.unsplit_from()
+        || gains.len() < 32 * bands
+        || detectors.len() < 3 * bands
+    {
         return;
     }
     add_powers(layout, samples, input, count, gains);

@@ -1,9 +1,10 @@
 -- The tests of the code, one after the other, are the definition's. Assumes nothing.
 use mathlib.Core.Path.{◌≡◌, refl, sym}
+use Rattle.std.proofs.Math.Bool.{and_assoc}
 use mathlib.Core.Bool.{Bool, true, false, ◌&&◌, true≢false}
 use mathlib.Core.List.{List}
-use Prim.Native.Nat.{ℕ, ◌+◌, ◌*◌, ◌%◌, ◌<◌, ◌≤◌}
-use borrow.Author.Tests.{le-leb, lt-leb, eq-eqb, ne_eqb, leb-true}
+use Prim.Native.Nat.{ℕ, ◌+◌, ◌*◌, ◌%◌, ◌≤◌}
+use borrow.Author.Tests.{leb-true}
 use lib.Dec.{eqb, leb}
 use lib.Ieee.{Float}
 use lib.ListN.{length, take}
@@ -13,24 +14,11 @@ use Rattle.calls.specs.Call.{buffers_fit, sample_fits, samples_fit, input_answer
 
 -- ---- the lengths
 
-module _ (slots input left right : ℕ) where
-  pub broken_row : (input % 128 ≡ 0 → ⊥) → false ≡ buffers_fit slots input left right
-  unfolding buffers_fit
-  broken_row n = rw (ne_eqb (input % 128) 0 n)
-
-  module _ (rows : input % 128 ≡ 0) where
-    pub few_rows : input < 128 * (slots + 6) → false ≡ buffers_fit slots input left right
-    unfolding buffers_fit
-    few_rows h = rw (eq-eqb (input % 128) 0 rows, lt-leb (128 * (slots + 6)) input h)
-
-    module _ (enough : 128 * (slots + 6) ≤ input) where
-      pub other_left : (left ≡ 128 * slots → ⊥) → false ≡ buffers_fit slots input left right
-      unfolding buffers_fit
-      other_left n = rw (eq-eqb (input % 128) 0 rows, le-leb (128 * (slots + 6)) input enough, ne_eqb left (128 * slots) n)
-
-      pub right_decides : left ≡ 128 * slots → eqb right (128 * slots) ≡ buffers_fit slots input left right
-      unfolding buffers_fit
-      right_decides e = rw (eq-eqb (input % 128) 0 rows, le-leb (128 * (slots + 6)) input enough, eq-eqb left (128 * slots) e)
+-- the tests joined from the first on
+pub all_fit : (slots input left right : ℕ) {rows lefts : Bool} → rows ≡ eqb (input % 128) 0 && leb (128 * (slots + 6)) input
+    → lefts ≡ rows && eqb left (128 * slots) → lefts && eqb right (128 * slots) ≡ buffers_fit slots input left right
+unfolding buffers_fit
+all_fit slots input left right e f = rw (f, e, and_assoc, and_assoc)
 
 -- lengths that fit leave room for the rows that are read
 pub fit_room : (slots input left right : ℕ) → buffers_fit slots input left right ≡ true → 128 * (slots + 6) ≤ input

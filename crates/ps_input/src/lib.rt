@@ -23,16 +23,7 @@ fn buffers_fit(slots: usize, input: usize, left: usize, right: usize) -> bool
     requires { slots ≤ 32 }
     ensures { result ≡ buffers_fit slots input left right }
 {
-    if input % 128 != 0 {
-        return false;
-    }
-    if input < 128 * (slots + 6) {
-        return false;
-    }
-    if left != 128 * slots {
-        return false;
-    }
-    right == 128 * slots
+    input % 128 == 0 && input >= 128 * (slots + 6) && left == 128 * slots && right == 128 * slots
 }
 
 // The answer of the input, for an asked number of slots and the outputs' lengths: done, or a refusal.

@@ -55,30 +55,33 @@ fn channel(layout: Layout, k: usize, table: &[i64], numbers: &mut [f64], x: Comp
     }
 }
 
+// What a frame's slots read: its layout and number of slots, the rotations, the samples of the split bands, the QMF rows, and the ducking factors.
+#[derive(Clone, Copy)]
+pub struct Frame<'a> {
+    pub layout: Layout,
+    pub slots: usize,
+    pub table: &'a [i64],
+    pub split: &'a [f64],
+    pub input: &'a [f64],
+    pub gains: &'a [f64],
+}
+
 // A slot of every channel, from the row of its samples into that of its de-correlated samples, by the ducking factors of slot n.
-fn slot(
-    layout: Layout,
-    n: usize,
-    table: &[i64],
-    samples: &[f64],
-    gains: &[f64],
-    queues: &mut [f64],
-    row: &mut [f64],
-)
-    requires { SlotLent layout n table.now samples.now gains.now queues.old row.old }
-    ensures { SlotDone layout n samples.now gains.now queues.old row.old queues.new row.new }
+fn slot(frame: Frame, n: usize, samples: &[f64], queues: &mut [f64], row: &mut [f64])
+    requires { SlotLent frame.layout n frame.table.now samples.now frame.gains.now queues.old row.old }
+    ensures { SlotDone frame.entry.layout n samples.now frame.entry.gains.now queues.old row.old queues.new row.new }
 {
-    let map = ps_map::parameter_map(layout);
+    let map = ps_map::parameter_map(frame.layout);
     let mut at = 0;
-    for k in 0..layout.channels() {
-        let width = size(layout, k);
+    for k in 0..frame.layout.channels() {
+        let width = size(frame.layout, k);
         let x = Complex {
             re: samples[2 * k],
             im: samples[2 * k + 1],
         };
-        let y = channel(layout, k, table, &mut queues[at..at + width], x);
+        let y = channel(frame.layout, k, frame.table, &mut queues[at..at + width], x);
         let b = usize::from(map[k]);
-        let d = y.scale(gains[32 * b + n]);
+        let d = y.scale(frame.gains[32 * b + n]);
         row[2 * k] = d.re;
         row[2 * k + 1] = d.im;
         at += width;
@@ -86,31 +89,14 @@ fn slot(
 }
 
 // Slot after slot, each to its row.
-pub fn slots(
-    layout: Layout,
-    slots: usize,
-    table: &[i64],
-    split: &[f64],
-    input: &[f64],
-    gains: &[f64],
-    queues: &mut [f64],
-    out: &mut [f64],
-)
-    requires { (table.now ≡ rotations_of layout) × Lent layout split.now input.now gains.now queues.old slots out.old }
-    ensures { Slotted layout split.now input.now gains.now queues.old slots out.old queues.new out.new }
+pub fn slots(frame: Frame, queues: &mut [f64], out: &mut [f64])
+    requires { (frame.table.now ≡ rotations_of frame.layout) × Lent frame.layout frame.split.now frame.input.now frame.gains.now queues.old frame.slots out.old }
+    ensures { Slotted frame.entry.layout frame.entry.split.now frame.entry.input.now frame.entry.gains.now queues.old frame.entry.slots out.old queues.new out.new }
 {
     let mut samples = [0.0; 182];
-    for n in 0..slots {
+    for n in 0..frame.slots {
         let at = 182 * n;
-        plain_slots::samples(layout, n, split, input, &mut samples);
-        slot(
-            layout,
-            n,
-            table,
-            &samples,
-            gains,
-            queues,
-            &mut out[at..at + 182],
-        );
+        plain_slots::samples(frame.layout, n, frame.split, frame.input, &mut samples);
+        slot(frame, n, &samples, queues, &mut out[at..at + 182]);
     }
 }

@@ -10,6 +10,7 @@ ghost use Rattle.std.specs.Prelude.{◌≡◌, min};
 ghost use Rattle.queue_decorr.specs.State.{fresh_queues, switched_queues, queues_ready, channel_queues};
 ghost use Rattle.queue_decorr.specs.Frame.{state_after, out_after};
 
+use channels::Frame;
 use layout::Layout;
 
 // What is carried from frame to frame: the layout, whether the last frame had a line, the queues channel after channel, and the transient detectors.
@@ -100,16 +101,15 @@ pub fn decorrelate(
     let mut gains = [0.0; 1088];
     ps_decorr_transient::duck(layout, &mut detectors, split, input, count, &mut gains);
     let mut queues = state.queues;
-    channels::slots(
+    let frame = Frame {
         layout,
-        count,
-        ps_decorr_allpass::rotations(layout),
+        slots: count,
+        table: ps_decorr_allpass::rotations(layout),
         split,
         input,
-        &gains,
-        &mut queues,
-        out,
-    );
+        gains: &gains,
+    };
+    channels::slots(frame, &mut queues, out);
     QueueDecorr {
         queues,
         detectors,

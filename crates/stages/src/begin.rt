@@ -2,7 +2,6 @@
 use crate::carried::Carried;
 use crate::play::{Call, RUNS};
 use crate::{carried, coefficients, sheet};
-use cue::Header;
 use ps_data::Resolved;
 use ps_state::PsCarried;
 
@@ -17,12 +16,12 @@ pub struct Begun {
 fn begin_read(
     rt: &impl Print,
     small: PsCarried,
-    header: Header,
     resolved: Resolved,
     call: Call,
     carried: &mut Carried,
     runs: &mut [f64; RUNS],
 ) -> Begun {
+    let header = resolved.header;
     let layout = ps_data::layout_in(small.layout, header);
     sheet::resets(rt, &carried.queues, layout, call);
     carried.queues = queue_decorr::ready(carried.queues, layout, call.edge, header.cued);
@@ -35,8 +34,7 @@ fn begin_read(
     );
     let phases = coefficients::in_frame(
         layout,
-        header,
-        resolved.indices,
+        resolved,
         timing,
         now.phases,
         &mut carried.memory[carried::MATRICES..],
@@ -66,13 +64,5 @@ pub fn begin(
 ) -> Option<Begun> {
     let small = ps_memory::load(&carried.memory);
     let resolved = ps_data::resolve(small.lines, call.line).ok()?;
-    Some(begin_read(
-        rt,
-        small,
-        resolved.header,
-        resolved,
-        call,
-        carried,
-        runs,
-    ))
+    Some(begin_read(rt, small, resolved, call, carried, runs))
 }

@@ -4,7 +4,7 @@ ghost use Rattle.std.specs.Prelude.{◌≤◌};
 use crate::play::RUNS;
 use cue::Header;
 use layout::Layout;
-use ps_data::PsIndices;
+use ps_data::Resolved;
 use ps_stereo_slots::Timing;
 
 pub fn timing_of(asked: usize, header: Header, positions: [u8; limits::ENVELOPES]) -> Timing
@@ -40,8 +40,7 @@ fn in_slots(timing: Timing, rows: &[f64], runs: &mut [f64; RUNS]) {
 // From the borders to the slots, with the coefficients in force where they lie; the phases after the frame are returned.
 pub fn in_frame(
     layout: Layout,
-    header: Header,
-    indices: PsIndices,
+    resolved: Resolved,
     timing: Timing,
     before: [i8; 136],
     matrices: &mut [f64],
@@ -51,8 +50,8 @@ pub fn in_frame(
     let mut rows = [0.0; limits::MATRICES];
     ps_stereo_borders::coefficients(
         layout,
-        header,
-        indices,
+        resolved.header,
+        resolved.indices,
         phase_table::table(),
         matrices,
         &mut phases,

@@ -1,11 +1,8 @@
 -- `plain_slots::added` meets its contract: after i turns the first i channels are added. Assumes nothing.
 use mathlib.Core.Path.{◌≡◌, ap₂, ◌∙◌}
-use Prim.Native.Nat.{◌*◌, ◌≤◌, ◌-◌}
-use borrow.Author.Rules.{rules}
 use native.Mathlib.Numerals.{add-one}
 use native.Mathlib.Omega.{arith}
 use Rattle.complex.specs.Operations.{sum}
-use Rattle.planar.specs.Cells.{cell}
 use Rattle.planar.proofs.Cells.{by_parts}
 use Rattle.standard.specs.Hybrid.{added_to}
 use Rattle.standard.proofs.Literals.{zero_is}

@@ -1,13 +1,7 @@
-use mathlib.Core.Path.{◌≡◌, ap₂, ◌∙◌}
+use mathlib.Core.Path.{◌≡◌}
 use Prim.Native.Nat.{◌*◌, ◌≤◌, ◌-◌}
-use borrow.Author.Rules.{rules}
-use native.Mathlib.Numerals.{add-one}
-use native.Mathlib.Omega.{arith}
-use Rattle.complex.specs.Operations.{sum}
 use Rattle.planar.specs.Cells.{cell}
-use Rattle.planar.proofs.Cells.{by_parts}
 use Rattle.standard.specs.Hybrid.{added_to}
-use Rattle.standard.proofs.Literals.{zero_is}
 use Rattle.plain_slots.proofs.added.Given as goal
 
 abbrev pub invariant-loop-i : goal.invariant-loop-i

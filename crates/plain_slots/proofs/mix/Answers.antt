@@ -1,8 +1,7 @@
 -- `plain_slots::mix` meets its contract: each turn puts both sides of one channel. Assumes nothing.
 use mathlib.Core.Path.{◌≡◌, ap, ◌∙◌}
 use mathlib.Core.List.{List}
-use Prim.Native.Nat.{ℕ, ◌+◌, ◌*◌, ◌<◌, ◌≤◌, ◌-◌}
-use borrow.Author.Rules.{rules}
+use Prim.Native.Nat.{ℕ, ◌+◌, ◌*◌, ◌<◌, ◌≤◌}
 use native.Mathlib.Omega.{arith}
 use lib.Ieee.{Float}
 use lib.ListN.{length}
@@ -11,10 +10,17 @@ use Rattle.layout.specs.Numbers.{bands_of}
 use Rattle.layout.proofs.Bounds.{bounds}
 use Rattle.ps_map.specs.Bands.{band_of}
 use Rattle.ps_map.proofs.Bands.{band_small}
-use Rattle.standard.specs.Mixing.{left_of, right_of}
-use Rattle.plain_slots.proofs.Carried.{Carried, carried_none, carried_more}
-use Rattle.plain_slots.proofs.Sides.{mixed, Read, left_is, right_is, late, short_runs, short_samples, short_decorrelated, short_left, short_right, filled}
+use Rattle.plain_slots.proofs.Carried.{carried_none, carried_more}
+use Rattle.plain_slots.proofs.Sides.{Read, New, left_is, right_is, late, short_runs, short_samples, short_decorrelated, short_left, short_right, filled}
 use Rattle.plain_slots.proofs.mix.Goals as goal
+use Rattle.plain_slots.proofs.mix.Goals.{
+  then-n-gt31-via-then-n-gt31,
+  then-n-gt31-via-else-n-gt31+then-runs-bands,
+  then-n-gt31-via-else-n-gt31+else-runs-bands+then-samples-numbers,
+  then-n-gt31-via-else-n-gt31+else-runs-bands+else-samples-numbers+then-decorrelated-numbers,
+  then-n-gt31-via-else-n-gt31+else-runs-bands+else-samples-numbers+else-decorrelated-numbers+then-left-numbers,
+  then-n-gt31-via-else-n-gt31+else-runs-bands+else-samples-numbers+else-decorrelated-numbers+else-left-numbers+then-right-numbers,
+}
 
 pub overflow_mul-numbers : goal.overflow_mul-numbers
 overflow_mul-numbers c = omega (arith, c.channels-channels.ensures, (bounds c.args.layout).channels)
@@ -27,50 +33,16 @@ overflow_mul-bands c = omega (arith, c.bands.ensures, (bounds c.args.layout).ban
 pub returns-then-n-gt31 : goal.returns-then-n-gt31
 returns-then-n-gt31 c =
     let a = c.args in
-    let p = late a.layout a.n a.runs.now a.samples.now a.decorrelated.now a.left.now a.right.now (omega (arith, c.if-n-gt31.true)) in
-    record { left = p.0; right = p.1 }
-
-pub returns-then-runs-bands : goal.returns-then-runs-bands
-returns-then-runs-bands c =
-    let a = c.args in
-    let small : c.args.n < 32 = omega (arith, c.if-n-gt31.false) in
-    let p = short_runs a.layout a.n a.runs.now a.samples.now a.decorrelated.now a.left.now a.right.now small (rw c.bands.ensures at c.if-runs-bands.true) in
-    record { left = p.0; right = p.1 }
-
-pub returns-then-samples-numbers : goal.returns-then-samples-numbers
-returns-then-samples-numbers c =
-    let a = c.args in
-    let small : c.args.n < 32 = omega (arith, c.if-n-gt31.false) in
-    let bands_there : 256 * bands_of c.args.layout ≤ length c.args.runs.now = rw c.bands.ensures at c.if-runs-bands.false in
     let e = c.channels-channels.ensures in
-    let p = short_samples a.layout a.n a.runs.now a.samples.now a.decorrelated.now a.left.now a.right.now small bands_there (rw e at c.if-samples-numbers.true) in
-    record { left = p.0; right = p.1 }
-
-pub returns-then-decorrelated-numbers : goal.returns-then-decorrelated-numbers
-returns-then-decorrelated-numbers c =
-    let a = c.args in
-    let small : c.args.n < 32 = omega (arith, c.if-n-gt31.false) in
-    let bands_there : 256 * bands_of c.args.layout ≤ length c.args.runs.now = rw c.bands.ensures at c.if-runs-bands.false in
-    let e = c.channels-channels.ensures in
-    let p = short_decorrelated a.layout a.n a.runs.now a.samples.now a.decorrelated.now a.left.now a.right.now small bands_there (rw e at c.if-samples-numbers.false) (rw e at c.if-decorrelated-numbers.true) in
-    record { left = p.0; right = p.1 }
-
-pub returns-then-left-numbers : goal.returns-then-left-numbers
-returns-then-left-numbers c =
-    let a = c.args in
-    let small : c.args.n < 32 = omega (arith, c.if-n-gt31.false) in
-    let bands_there : 256 * bands_of c.args.layout ≤ length c.args.runs.now = rw c.bands.ensures at c.if-runs-bands.false in
-    let e = c.channels-channels.ensures in
-    let p = short_left a.layout a.n a.runs.now a.samples.now a.decorrelated.now a.left.now a.right.now small bands_there (rw e at c.if-samples-numbers.false) (rw e at c.if-decorrelated-numbers.false) (rw e at c.if-left-numbers.true) in
-    record { left = p.0; right = p.1 }
-
-pub returns-then-right-numbers : goal.returns-then-right-numbers
-returns-then-right-numbers c =
-    let a = c.args in
-    let small : c.args.n < 32 = omega (arith, c.if-n-gt31.false) in
-    let bands_there : 256 * bands_of c.args.layout ≤ length c.args.runs.now = rw c.bands.ensures at c.if-runs-bands.false in
-    let e = c.channels-channels.ensures in
-    let p = short_right a.layout a.n a.runs.now a.samples.now a.decorrelated.now a.left.now a.right.now small bands_there (rw e at c.if-samples-numbers.false) (rw e at c.if-decorrelated-numbers.false) (rw e at c.if-left-numbers.false) (rw e at c.if-right-numbers.true) in
+    let p : New a.layout a.n a.runs.now a.samples.now a.decorrelated.now a.left.now a.right.now a.left.now a.right.now =
+    elim c.then-n-gt31.branch [
+      | then-n-gt31-via-then-n-gt31 w ↦ late a.layout a.n a.runs.now a.samples.now a.decorrelated.now a.left.now a.right.now (omega (arith, w.if-n-gt31.true))
+      | then-n-gt31-via-else-n-gt31+then-runs-bands w ↦ short_runs a.layout a.n a.runs.now a.samples.now a.decorrelated.now a.left.now a.right.now (omega (arith, w.if-n-gt31.false)) (rw w.bands.ensures at w.if-runs-bands.true)
+      | then-n-gt31-via-else-n-gt31+else-runs-bands+then-samples-numbers w ↦ short_samples a.layout a.n a.runs.now a.samples.now a.decorrelated.now a.left.now a.right.now (omega (arith, w.if-n-gt31.false)) (rw w.bands.ensures at w.if-runs-bands.false) (rw e at w.if-samples-numbers.true)
+      | then-n-gt31-via-else-n-gt31+else-runs-bands+else-samples-numbers+then-decorrelated-numbers w ↦ short_decorrelated a.layout a.n a.runs.now a.samples.now a.decorrelated.now a.left.now a.right.now (omega (arith, w.if-n-gt31.false)) (rw w.bands.ensures at w.if-runs-bands.false) (rw e at w.if-samples-numbers.false) (rw e at w.if-decorrelated-numbers.true)
+      | then-n-gt31-via-else-n-gt31+else-runs-bands+else-samples-numbers+else-decorrelated-numbers+then-left-numbers w ↦ short_left a.layout a.n a.runs.now a.samples.now a.decorrelated.now a.left.now a.right.now (omega (arith, w.if-n-gt31.false)) (rw w.bands.ensures at w.if-runs-bands.false) (rw e at w.if-samples-numbers.false) (rw e at w.if-decorrelated-numbers.false) (rw e at w.if-left-numbers.true)
+      | then-n-gt31-via-else-n-gt31+else-runs-bands+else-samples-numbers+else-decorrelated-numbers+else-left-numbers+then-right-numbers w ↦ short_right a.layout a.n a.runs.now a.samples.now a.decorrelated.now a.left.now a.right.now (omega (arith, w.if-n-gt31.false)) (rw w.bands.ensures at w.if-runs-bands.false) (rw e at w.if-samples-numbers.false) (rw e at w.if-decorrelated-numbers.false) (rw e at w.if-left-numbers.false) (rw e at w.if-right-numbers.true)
+    ] in
     record { left = p.0; right = p.1 }
 
 -- ---- the loop

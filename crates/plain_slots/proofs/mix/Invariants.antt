@@ -1,17 +1,12 @@
-use mathlib.Core.Path.{◌≡◌, ap, ◌∙◌}
 use mathlib.Core.List.{List}
-use Prim.Native.Nat.{ℕ, ◌+◌, ◌*◌, ◌<◌, ◌≤◌, ◌-◌}
-use borrow.Author.Rules.{rules}
-use native.Mathlib.Omega.{arith}
+use Prim.Native.Nat.{ℕ, ◌*◌, ◌<◌, ◌≤◌, ◌-◌}
 use lib.Ieee.{Float}
 use lib.ListN.{length}
 use Rattle.layout.specs.declared.Layout.{Layout}
 use Rattle.layout.specs.Numbers.{bands_of}
-use Rattle.layout.proofs.Bounds.{bounds}
-use Rattle.ps_map.proofs.Bands.{band_small}
 use Rattle.standard.specs.Mixing.{left_of, right_of}
-use Rattle.plain_slots.proofs.Carried.{Carried, carried_none, carried_more}
-use Rattle.plain_slots.proofs.Sides.{mixed, Read, left_is, right_is, late, short_runs, short_samples, short_decorrelated, short_left, short_right, filled}
+use Rattle.plain_slots.proofs.Carried.{Carried}
+use Rattle.plain_slots.proofs.Sides.{mixed}
 use Rattle.plain_slots.proofs.mix.Given as goal
 
 -- the lists are long enough

@@ -1,49 +1,37 @@
 -- `plain_slots::samples` meets its contract: the first loop puts the split bands' channels, the second the others. Assumes nothing.
 use mathlib.Core.Path.{◌≡◌, ◌∙◌}
-use mathlib.Core.List.{List}
-use Prim.Native.Nat.{ℕ, ◌+◌, ◌-◌, ◌*◌, ◌<◌, ◌≤◌}
-use borrow.Author.Rules.{rules}
+use Prim.Native.Nat.{◌*◌, ◌<◌, ◌≤◌}
 use native.Mathlib.Omega.{arith}
-use lib.Ieee.{Float}
 use lib.ListN.{length}
 use Rattle.layout.specs.Numbers.{channels_of, unsplit_from_of}
 use Rattle.layout.proofs.Bounds.{bounds}
-use Rattle.plain_slots.proofs.Carried.{Carried, carried_none, carried_more}
-use Rattle.plain_slots.proofs.Reading.{in_run, in_slot, late, short_split, short_input, short_row, filled}
+use Rattle.plain_slots.proofs.Carried.{carried_none, carried_more}
+use Rattle.plain_slots.proofs.Reading.{late, short_split, short_input, short_row, filled}
 use Rattle.plain_slots.proofs.samples.Goals as goal
+use Rattle.plain_slots.proofs.samples.Goals.{
+  then-n-gt31-via-then-n-gt31,
+  then-n-gt31-via-else-n-gt31+then-split-unsplit,
+  then-n-gt31-via-else-n-gt31+else-split-unsplit+then-input-n,
+  then-n-gt31-via-else-n-gt31+else-split-unsplit+else-input-n+then-row-channels,
+}
 
 pub returns-then-n-gt31 : goal.returns-then-n-gt31
 returns-then-n-gt31 c =
     let a = c.args in
-    late a.layout a.n a.split.now a.input.now a.row.now (omega (arith, c.if-n-gt31.true))
+    let u = c.unsplit_from-unsplit.ensures in
+    elim c.then-n-gt31.branch [
+      | then-n-gt31-via-then-n-gt31 w ↦ late a.layout a.n a.split.now a.input.now a.row.now (omega (arith, w.if-n-gt31.true))
+      | then-n-gt31-via-else-n-gt31+then-split-unsplit w ↦ short_split a.layout a.n a.split.now a.input.now a.row.now (omega (arith, w.if-n-gt31.false)) (rw u at w.if-split-unsplit.true)
+      | then-n-gt31-via-else-n-gt31+else-split-unsplit+then-input-n w ↦ short_input a.layout a.n a.split.now a.input.now a.row.now (omega (arith, w.if-n-gt31.false)) (rw u at w.if-split-unsplit.false) w.if-input-n.true
+      | then-n-gt31-via-else-n-gt31+else-split-unsplit+else-input-n+then-row-channels w ↦ short_row a.layout a.n a.split.now a.input.now a.row.now (omega (arith, w.if-n-gt31.false)) (rw u at w.if-split-unsplit.false) w.if-input-n.false (rw c.channels-channels.ensures at w.if-row-channels.true)
+    ]
 
 pub overflow_mul-unsplit : goal.overflow_mul-unsplit
 overflow_mul-unsplit c = omega (arith, c.unsplit_from-unsplit.ensures, bounds c.args.layout)
 
-pub returns-then-split-unsplit : goal.returns-then-split-unsplit
-returns-then-split-unsplit c =
-    let small : c.args.n < 32 = omega (arith, c.if-n-gt31.false) in
-    let a = c.args in
-    short_split a.layout a.n a.split.now a.input.now a.row.now small (rw c.unsplit_from-unsplit.ensures at c.if-split-unsplit.true)
-
-pub returns-then-input-n : goal.returns-then-input-n
-returns-then-input-n c =
-    let small : c.args.n < 32 = omega (arith, c.if-n-gt31.false) in
-    let runs_there : 64 * unsplit_from_of c.args.layout ≤ length c.args.split.now = rw c.unsplit_from-unsplit.ensures at c.if-split-unsplit.false in
-    let a = c.args in
-    short_input a.layout a.n a.split.now a.input.now a.row.now small runs_there c.if-input-n.true
-
 pub overflow_mul-channels : goal.overflow_mul-channels
 overflow_mul-channels c =
     omega (arith, c.channels-channels.ensures, (bounds c.args.layout).channels)
-
-pub returns-then-row-channels : goal.returns-then-row-channels
-returns-then-row-channels c =
-    let small : c.args.n < 32 = omega (arith, c.if-n-gt31.false) in
-    let runs_there : 64 * unsplit_from_of c.args.layout ≤ length c.args.split.now = rw c.unsplit_from-unsplit.ensures at c.if-split-unsplit.false in
-    let a = c.args in
-    short_row a.layout a.n a.split.now a.input.now a.row.now small runs_there c.if-input-n.false
-    (rw c.channels-channels.ensures at c.if-row-channels.true)
 
 -- ---- the loops
 pub loop-k-init : goal.loop-k-init

@@ -1,14 +1,10 @@
-use mathlib.Core.Path.{◌≡◌, ◌∙◌}
+use mathlib.Core.Path.{◌≡◌}
 use mathlib.Core.List.{List}
 use Prim.Native.Nat.{ℕ, ◌+◌, ◌-◌, ◌*◌, ◌<◌, ◌≤◌}
-use borrow.Author.Rules.{rules}
-use native.Mathlib.Omega.{arith}
 use lib.Ieee.{Float}
 use lib.ListN.{length}
-use Rattle.layout.specs.Numbers.{channels_of, unsplit_from_of}
-use Rattle.layout.proofs.Bounds.{bounds}
-use Rattle.plain_slots.proofs.Carried.{Carried, carried_none, carried_more}
-use Rattle.plain_slots.proofs.Reading.{in_run, in_slot, late, short_split, short_input, short_row, filled}
+use Rattle.plain_slots.proofs.Carried.{Carried}
+use Rattle.plain_slots.proofs.Reading.{in_run, in_slot}
 use Rattle.plain_slots.proofs.samples.Given as goal
 
 -- the lists are long enough

@@ -1,6 +1,5 @@
 -- `plain_slots::side` meets its contract: what the calls give, put together. Assumes nothing.
 use mathlib.Core.Path.{◌∙◌, ap, ap₂}
-use borrow.Author.Rules.{rules}
 use Rattle.complex.specs.declared.Complex.{Complex}
 use Rattle.complex.specs.Operations.{product, sum}
 use Rattle.standard.specs.Mixing.{taken}

@@ -1,19 +1,18 @@
 -- `plain_slots::synthesise` meets its contract: the first loop puts the split bands' sums, the second the bands that pass unchanged. Assumes nothing.
 use mathlib.Core.Path.{◌≡◌, ◌∙◌}
-use mathlib.Core.List.{List}
-use Prim.Native.Nat.{ℕ, ◌+◌, ◌*◌, ◌≤◌, ◌-◌}
-use borrow.Author.Rules.{rules}
+use Prim.Native.Nat.{◌*◌, ◌≤◌}
 use native.Mathlib.Omega.{arith}
-use lib.Ieee.{Float}
 use lib.ListN.{length}
 use Rattle.layout.specs.declared.Layout.{Layout}
-use Rattle.layout.specs.Numbers.{channels_of, split_of, unsplit_from_of}
+use Rattle.layout.specs.Numbers.{channels_of}
 use Rattle.layout.proofs.Bounds.{bounds}
-use Rattle.standard.specs.Hybrid.{synthesised}
-use Rattle.plain_slots.specs.Rows.{in_row}
-use Rattle.plain_slots.proofs.Carried.{Carried, carried_none, carried_more}
-use Rattle.plain_slots.proofs.Bands.{passed, rising, reached, band_is, short_hybrid, short_row, together}
+use Rattle.plain_slots.proofs.Carried.{carried_none, carried_more}
+use Rattle.plain_slots.proofs.Bands.{rising, reached, band_is, short_hybrid, short_row, together}
 use Rattle.plain_slots.proofs.synthesise.Goals as goal
+use Rattle.plain_slots.proofs.synthesise.Goals.{
+  then-hybrid-channels-via-then-hybrid-channels,
+  then-hybrid-channels-via-else-hybrid-channels+then-row-lt128,
+}
 
 pub overflow_mul-channels : goal.overflow_mul-channels
 overflow_mul-channels c = omega (arith, c.channels.ensures, (bounds c.args.layout).channels)
@@ -21,13 +20,10 @@ overflow_mul-channels c = omega (arith, c.channels.ensures, (bounds c.args.layou
 pub returns-then-hybrid-channels : goal.returns-then-hybrid-channels
 returns-then-hybrid-channels c =
     let a = c.args in
-    short_hybrid a.layout a.hybrid.now a.row.now (rw c.channels.ensures at c.if-hybrid-channels.true)
-
-pub returns-then-row-lt128 : goal.returns-then-row-lt128
-returns-then-row-lt128 c =
-    let whole : 2 * channels_of c.args.layout ≤ length c.args.hybrid.now = rw c.channels.ensures at c.if-hybrid-channels.false in
-    let a = c.args in
-    short_row a.layout a.hybrid.now a.row.now whole c.if-row-lt128.true
+    elim c.then-hybrid-channels.branch [
+      | then-hybrid-channels-via-then-hybrid-channels w ↦ short_hybrid a.layout a.hybrid.now a.row.now (rw c.channels.ensures at w.if-hybrid-channels.true)
+      | then-hybrid-channels-via-else-hybrid-channels+then-row-lt128 w ↦ short_row a.layout a.hybrid.now a.row.now (rw c.channels.ensures at w.if-hybrid-channels.false) w.if-row-lt128.true
+    ]
 
 pub loop-q-init : goal.loop-q-init
 loop-q-init c =

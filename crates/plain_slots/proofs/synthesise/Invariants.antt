@@ -1,17 +1,14 @@
-use mathlib.Core.Path.{◌≡◌, ◌∙◌}
+use mathlib.Core.Path.{◌≡◌}
 use mathlib.Core.List.{List}
 use Prim.Native.Nat.{ℕ, ◌+◌, ◌*◌, ◌≤◌, ◌-◌}
-use borrow.Author.Rules.{rules}
-use native.Mathlib.Omega.{arith}
 use lib.Ieee.{Float}
 use lib.ListN.{length}
 use Rattle.layout.specs.declared.Layout.{Layout}
-use Rattle.layout.specs.Numbers.{channels_of, split_of, unsplit_from_of}
-use Rattle.layout.proofs.Bounds.{bounds}
+use Rattle.layout.specs.Numbers.{split_of, unsplit_from_of}
 use Rattle.standard.specs.Hybrid.{synthesised}
 use Rattle.plain_slots.specs.Rows.{in_row}
-use Rattle.plain_slots.proofs.Carried.{Carried, carried_none, carried_more}
-use Rattle.plain_slots.proofs.Bands.{passed, rising, reached, band_is, short_hybrid, short_row, together}
+use Rattle.plain_slots.proofs.Carried.{Carried}
+use Rattle.plain_slots.proofs.Bands.{passed}
 use Rattle.plain_slots.proofs.synthesise.Given as goal
 
 -- the lists are long enough

@@ -1,5 +1,4 @@
 -- `plain_slots::taken` meets its contract: each return is the case that the mark picks. Assumes nothing.
-use borrow.Author.Rules.{rules}
 use Rattle.plain_slots.proofs.taken.Goals as goal
 
 pub returns-then-marked : goal.returns-then-marked

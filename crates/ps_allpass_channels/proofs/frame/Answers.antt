@@ -6,6 +6,6 @@ use Rattle.ps_allpass_channels.proofs.frame.Goals as goal
 pub returns : goal.returns
 returns c =
     let a = c.args in
-    let p = framed a.layout a.timing a.table.now a.lent.samples.now a.lent.gains.now a.lent.rows.now a.lent.input.now a.delays.now a.left.now a.right.now _ _ _
-    c.requires (c.run.ensures a.table.now c.lay.ensures) in
+    let p = framed a.lent.layout a.timing a.table.now a.lent.samples.now a.lent.gains.now a.lent.rows.now a.lent.input.now a.delays.now a.left.now a.right.now _ _ _
+    c.requires.room (c.run.ensures a.table.now c.lay.ensures) in
     record { left = p.0; right = p.1.0; delays = c.silence_free.ensures ∙ p.1.1 }

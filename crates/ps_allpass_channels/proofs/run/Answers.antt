@@ -18,7 +18,6 @@ loop-n-init c =
     record {
       within = omega arith;
       ends = refl;
-      mapped = c.parameter_map-map.ensures;
       counted = c.min-count.ensures;
       desks_long = refl;
       delays_long = refl;
@@ -26,7 +25,7 @@ loop-n-init c =
       right_long = refl;
       begun = λ e h. absurd (cc);
       chains = λ k u. refl;
-      sofar = λ table laid. none a.layout a.timing table a.lent.samples.now a.lent.gains.now a.lent.rows.now a.lent.input.now a.delays.now a.left.now a.right.now;
+      sofar = λ table laid. none a.lent.layout a.timing table a.lent.samples.now a.lent.gains.now a.lent.rows.now a.lent.input.now a.delays.now a.left.now a.right.now;
     }
 
 pub begin-requires : goal.begin-requires
@@ -34,7 +33,7 @@ begin-requires c =
     let l = c.loop-n in
     let a = c.args in
     record {
-      map_value = (l.invariant.mapped, c.requires.rows_long);
+      map_value = (c.requires.map_value, c.requires.room.rows_long);
       region_le_count = (
         omega (arith, c.region_in-next.ensures, l.invariant.counted, region_within a.timing.borders (min a.timing.count limits.envelopes) (min l.n 31)),
         omega (arith, l.invariant.counted),
@@ -44,16 +43,16 @@ begin-requires c =
 
 pub overflow_add-moment : goal.overflow_add-moment
 overflow_add-moment c =
-    let r = c.requires in
+    let r = c.requires.room in
     omega (arith, r.turn, r.few, c.loop-n.invariant.ends, c.loop-n-test.true)
 
 pub slot-requires : goal.slot-requires
 slot-requires c =
     let v = c.loop-n.invariant in
-    let r = c.requires in
+    let r = c.requires.room in
     let room = c.loop-n-test.true in
     record {
-      map_value = (v.mapped, omega (arith, room, r.few, v.ends), omega (arith, room, r.input_long, v.ends));
+      map_value = (c.requires.map_value, omega (arith, room, r.few, v.ends), omega (arith, room, r.input_long, v.ends));
       layout_in_bounds = (r.samples_long, r.gains_long);
       delays_len = omega (arith, v.delays_long, r.delays_long);
       n_in_bounds = (omega (arith, room, v.left_long, r.left_long, v.ends), omega (arith, room, v.right_long, r.right_long, v.ends));
@@ -64,7 +63,7 @@ loop-n-preserved c =
     let l = c.loop-n in
     let a = c.args in
     let room = c.loop-n-test.true in
-    let few : l.n < 32 = omega (arith, room, c.requires.few, l.invariant.ends) in
+    let few : l.n < 32 = omega (arith, room, c.requires.room.few, l.invariant.ends) in
     let long : length a.timing.borders ≡ limits.envelopes = search rules in
     let count = c.min-count.result in
     let region = c.region_in-next.result in
@@ -73,19 +72,18 @@ loop-n-preserved c =
     record {
       within = omega (arith, room);
       ends = l.invariant.ends;
-      mapped = l.invariant.mapped;
       counted = l.invariant.counted;
       desks_long = omega (arith, l.invariant.desks_long);
       delays_long = s.long ∙ l.invariant.delays_long;
       left_long = omega (arith, l.invariant.left_long);
       right_long = omega (arith, l.invariant.right_long);
       begun = λ e h. let same : region ≡ e = cc in
-          subst (λ (r : ℕ). Wayed a.layout a.lent.rows.now r (min (r + 1) count) c.slot.new.desks) same (record { from = λ k u. s.from k u ∙ way.from k u; step = λ k u. s.step k u ∙ way.step k u });
+          subst (λ (r : ℕ). Wayed a.lent.layout a.lent.rows.now r (min (r + 1) count) c.slot.new.desks) same (record { from = λ k u. s.from k u ∙ way.from k u; step = λ k u. s.step k u ∙ way.step k u });
       chains = λ k u. s.chain k u ∙ c.begin.ensures.chains k u ∙ l.invariant.chains k u;
       sofar = λ table laid.
-          more a.layout a.timing table a.lent.samples.now a.lent.gains.now a.lent.rows.now a.lent.input.now a.delays.now l.n _ _ _
+          more a.lent.layout a.timing table a.lent.samples.now a.lent.gains.now a.lent.rows.now a.lent.input.now a.delays.now l.n _ _ _
           (λ k u. c.begin.ensures.chains k u ∙ l.invariant.chains k u ∙ laid k u)
-          (λ k u. matrix_is a.layout a.timing table a.lent.samples.now a.lent.gains.now a.lent.rows.now a.lent.input.now a.delays.now l.n count region _ few long l.invariant.counted c.region_in-next.ensures c.share_in.ensures _ k u way)
+          (λ k u. matrix_is a.lent.layout a.timing table a.lent.samples.now a.lent.gains.now a.lent.rows.now a.lent.input.now a.delays.now l.n count region _ few long l.invariant.counted c.region_in-next.ensures c.share_in.ensures _ k u way)
           a.left.now a.right.now _ _ _ _ _ _ _ (l.invariant.sofar table laid) s;
     }
 
@@ -104,5 +102,5 @@ returns c =
     let a = c.args in
     let whole : l.n ≡ a.timing.slots = omega (arith, l.invariant.within, l.invariant.ends, c.loop-n-test.false) in
     λ table laid.
-    all a.layout a.timing table a.lent.samples.now a.lent.gains.now a.lent.rows.now a.lent.input.now a.delays.now l.n a.left.now a.right.now _ _ _ whole
+    all a.lent.layout a.timing table a.lent.samples.now a.lent.gains.now a.lent.rows.now a.lent.input.now a.delays.now l.n a.left.now a.right.now _ _ _ whole
     (l.invariant.sofar table laid)

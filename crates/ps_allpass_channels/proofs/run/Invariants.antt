@@ -8,18 +8,16 @@ use lib.ListN.{length}
 use Rattle.layout.specs.declared.Layout.{Layout}
 use Rattle.limits.specs.Limits as limits
 use Rattle.ps_allpass_groups.specs.Desk.{chain_on}
-use Rattle.ps_map.specs.Bands.{parameter_map}
 use Rattle.ps_stereo_slots.specs.declared.Timing.{Timing}
 use Rattle.standard.specs.Channel.{chain_from}
 use Rattle.ps_allpass_channels.specs.Desks.{desk_of, Lies, Wayed}
 use Rattle.ps_allpass_channels.specs.Slots.{Reached}
 use Rattle.ps_allpass_channels.proofs.run.Given as goal
 
-pub record Inv (l : Layout) (timing : Timing) (samples gains rows input desks₀ delays₀ left₀ right₀ : List Float) (map : List ℕ) (count end : ℕ)
+pub record Inv (l : Layout) (timing : Timing) (samples gains rows input desks₀ delays₀ left₀ right₀ : List Float) (count end : ℕ)
     (desks delays left right : List Float) (region : Option ℕ) (n : ℕ) : Type 0 where
   pub within : n ≤ end
   pub ends : end ≡ timing.slots
-  pub mapped : map ≡ parameter_map l
   pub counted : count ≡ min timing.count limits.envelopes
   pub desks_long : length desks ≡ length desks₀
   pub delays_long : length delays ≡ length delays₀
@@ -30,7 +28,7 @@ pub record Inv (l : Layout) (timing : Timing) (samples gains rows input desks₀
   pub sofar : (table : List ℤ) → Lies l chain_on desks₀ (chain_from table l) → Reached l timing table samples gains rows input delays₀ n left₀ right₀ delays left right
 
 abbrev pub invariant-loop-n : goal.invariant-loop-n
-invariant-loop-n l = Inv l.layout l.timing l.lent.samples.now l.lent.gains.now l.lent.rows.now l.lent.input.now l.initial.desks l.initial.delays l.initial.left l.initial.right l.map l.count l.n-end l.desks l.delays l.left l.right l.region l.n
+invariant-loop-n l = Inv l.lent.layout l.timing l.lent.samples.now l.lent.gains.now l.lent.rows.now l.lent.input.now l.initial.desks l.initial.delays l.initial.left l.initial.right l.count l.n-end l.desks l.delays l.left l.right l.region l.n
 
 abbrev pub decreases-loop-n : goal.decreases-loop-n
 decreases-loop-n l = l.n-end - l.n

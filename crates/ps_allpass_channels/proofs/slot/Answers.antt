@@ -11,7 +11,7 @@ leave-requires c =
 pub returns : goal.returns
 returns c =
     let a = c.args in
-    let l = a.moment.layout in
+    let l = a.lent.layout in
     let m = a.moment in
     let e = c.enter.ensures in
     passed l a.lent.samples.now a.lent.gains.now a.lent.input.now m.n m.turn m.t m.held

@@ -1,5 +1,5 @@
 -- `ps_decorr_transient::add_channel` meets its contract: each turn adds one slot's power to what stood there. Assumes nothing.
-use mathlib.Core.Path.{◌≡◌, refl}
+use mathlib.Core.Path.{refl}
 use native.Mathlib.Omega.{arith}
 use Rattle.standard.specs.Numbers.{◌⊕◌}
 use Rattle.ps_decorr_transient.specs.Rows.{added}

@@ -1,7 +1,7 @@
 -- `ps_decorr_transient::clear` meets its contract: each turn clears one row more. Assumes nothing.
 use mathlib.Core.Path.{◌≡◌, refl}
 use native.Mathlib.Omega.{arith}
-use Rattle.std.proofs.Common.{ℕ, ◌+◌, ◌-◌, ◌*◌, rules}
+use Rattle.std.proofs.Common.{◌+◌, ◌-◌, ◌*◌, rules}
 use Rattle.standard.proofs.Literals.{zero_is}
 use Rattle.ps_decorr_transient.proofs.Rows.{rowed_none, rowed_and, rowed_filled}
 use Rattle.ps_decorr_transient.proofs.clear.Goals as goal

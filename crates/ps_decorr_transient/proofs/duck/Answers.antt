@@ -12,6 +12,12 @@ use Rattle.layout.specs.Numbers.{bands_of, unsplit_from_of}
 use Rattle.ps_decorr_transient.specs.Gains.{enough}
 use Rattle.ps_decorr_transient.proofs.Ducks.{nothing_changes, new_detectors, new_gains}
 use Rattle.ps_decorr_transient.proofs.duck.Goals as goal
+use Rattle.ps_decorr_transient.proofs.duck.Goals.{
+  then-input-count-via-then-input-count,
+  then-input-count-via-else-input-count+then-samples-unsplit_from,
+  then-input-count-via-else-input-count+else-samples-unsplit_from+then-gains-bands,
+  then-input-count-via-else-input-count+else-samples-unsplit_from+else-gains-bands+then-detectors-bands,
+}
 
 -- ---- the tests one by one
 module _ (l : Layout) (memory samples input gains : List Float) (count : ℕ) where
@@ -39,34 +45,16 @@ module _ (l : Layout) (memory samples input gains : List Float) (count : ℕ) wh
 pub returns-then-input-count : goal.returns-then-input-count
 returns-then-input-count c =
     let s = c.args in
-    let kept = nothing_changes s.layout s.detectors.now s.samples.now s.input.now s.gains.now (min s.slots 32)
-    (short_input s.layout s.detectors.now s.samples.now s.input.now s.gains.now (min s.slots 32) (rw c.min-count.ensures at c.if-input-count.true)) in
-    record { detectors = kept.0; gains = kept.1 }
-
-pub returns-then-samples-unsplit_from : goal.returns-then-samples-unsplit_from
-returns-then-samples-unsplit_from c =
-    let s = c.args in
-    let kept = nothing_changes s.layout s.detectors.now s.samples.now s.input.now s.gains.now (min s.slots 32)
-    (short_samples s.layout s.detectors.now s.samples.now s.input.now s.gains.now (min s.slots 32)
-    (rw c.min-count.ensures at c.if-input-count.false) (rw c.unsplit_from.ensures at c.if-samples-unsplit_from.true)) in
-    record { detectors = kept.0; gains = kept.1 }
-
-pub returns-then-gains-bands : goal.returns-then-gains-bands
-returns-then-gains-bands c =
-    let s = c.args in
-    let kept = nothing_changes s.layout s.detectors.now s.samples.now s.input.now s.gains.now (min s.slots 32)
-    (short_gains s.layout s.detectors.now s.samples.now s.input.now s.gains.now (min s.slots 32)
-    (rw c.min-count.ensures at c.if-input-count.false) (rw c.unsplit_from.ensures at c.if-samples-unsplit_from.false)
-    (rw c.bands-bands.ensures at c.if-gains-bands.true)) in
-    record { detectors = kept.0; gains = kept.1 }
-
-pub returns-then-detectors-bands : goal.returns-then-detectors-bands
-returns-then-detectors-bands c =
-    let s = c.args in
-    let kept = nothing_changes s.layout s.detectors.now s.samples.now s.input.now s.gains.now (min s.slots 32)
-    (short_memory s.layout s.detectors.now s.samples.now s.input.now s.gains.now (min s.slots 32)
-    (rw c.min-count.ensures at c.if-input-count.false) (rw c.unsplit_from.ensures at c.if-samples-unsplit_from.false)
-    (rw c.bands-bands.ensures at c.if-gains-bands.false) (rw c.bands-bands.ensures at c.if-detectors-bands.true)) in
+    let n = c.min-count.ensures in
+    let e = c.bands-bands.ensures in
+    let short : enough s.layout s.detectors.now s.samples.now s.input.now s.gains.now (min s.slots 32) ≡ false =
+    elim c.then-input-count.branch [
+      | then-input-count-via-then-input-count w ↦ short_input s.layout s.detectors.now s.samples.now s.input.now s.gains.now (min s.slots 32) (rw n at w.if-input-count.true)
+      | then-input-count-via-else-input-count+then-samples-unsplit_from w ↦ short_samples s.layout s.detectors.now s.samples.now s.input.now s.gains.now (min s.slots 32) (rw n at w.if-input-count.false) (rw w.unsplit_from.ensures at w.if-samples-unsplit_from.true)
+      | then-input-count-via-else-input-count+else-samples-unsplit_from+then-gains-bands w ↦ short_gains s.layout s.detectors.now s.samples.now s.input.now s.gains.now (min s.slots 32) (rw n at w.if-input-count.false) (rw w.unsplit_from.ensures at w.if-samples-unsplit_from.false) (rw e at w.if-gains-bands.true)
+      | then-input-count-via-else-input-count+else-samples-unsplit_from+else-gains-bands+then-detectors-bands w ↦ short_memory s.layout s.detectors.now s.samples.now s.input.now s.gains.now (min s.slots 32) (rw n at w.if-input-count.false) (rw w.unsplit_from.ensures at w.if-samples-unsplit_from.false) (rw e at w.if-gains-bands.false) (rw e at w.if-detectors-bands.true)
+    ] in
+    let kept = nothing_changes s.layout s.detectors.now s.samples.now s.input.now s.gains.now (min s.slots 32) short in
     record { detectors = kept.0; gains = kept.1 }
 
 pub returns : goal.returns

@@ -1,4 +1,4 @@
-use Rattle.std.proofs.Common.{◌+◌, ◌*◌, ◌/◌}
+use Rattle.std.proofs.Common.{◌*◌}
 use Rattle.ps_decorr_transient.specs.Rows.{Ducked}
 use Rattle.ps_decorr_transient.proofs.duck_rows.Given as goal
 

@@ -1,7 +1,5 @@
 -- `ps_input::input_answer` meets its contract: each return is the case that its two answers pick. Assumes nothing.
 use mathlib.Core.Path.{sym, ◌∙◌}
-use borrow.Author.Rules.{rules}
-use borrow.Author.Tests.{not-true, not-false}
 use lib.Seq.{length-take-le}
 use Rattle.ps_input.proofs.Answers.{fit_room, refused_buffers, accepted, refused_sample}
 use Rattle.ps_input.proofs.input_answer.Goals as goal

@@ -1,11 +1,8 @@
 -- `ps_input::samples_fit` meets its contract: the flag says whether all so far fit. Assumes nothing.
-use mathlib.Core.Path.{◌≡◌, refl, sym}
-use Prim.Native.Nat.{◌≤◌, ◌-◌}
-use borrow.Author.Rules.{rules}
+use mathlib.Core.Path.{refl}
 use native.Mathlib.Omega.{arith}
 use lib.Ieee.{nan}
-use lib.ListN.{length, take, get_or}
-use Rattle.lists.specs.All.{all}
+use lib.ListN.{get_or}
 use Rattle.lists.proofs.Alls.{all_so_far, all_whole}
 use Rattle.calls.specs.Call.{sample_fits}
 use Rattle.ps_input.proofs.Limits.{sample_tested}

@@ -8,7 +8,7 @@ use Rattle.ps_allpass_channels.proofs.desks.enter.Goals as goal
 
 pub enter_split-requires : goal.enter_split-requires
 enter_split-requires c =
-    let b = bounds c.args.layout in
+    let b = bounds c.args.lent.layout in
     omega (arith, c.unsplit_from.ensures, b.delayed, b.all_pass, b.split)
 
 pub returns : goal.returns
@@ -17,7 +17,7 @@ returns c =
     let p = rw c.unsplit_from.ensures at c.enter_split.ensures in
     let q = c.enter_row.ensures in
     let r = c.enter_ducks.ensures in
-    let e = entered a.layout a.samples.now a.gains.now a.input.now a.n p q r in record {
+    let e = entered a.lent.layout a.lent.samples.now a.lent.gains.now a.lent.input.now a.n p q r in record {
       samples = e.0;
       ducks = e.1;
       chains = λ k u. same_chain _ _ k (λ j v. r.before k j (omega arith) ∙ q.before k j (omega arith) ∙ p.before k j (omega arith));

@@ -3,7 +3,6 @@ use mathlib.Core.Path.{◌≡◌, ◌∙◌}
 use Prim.Native.Nat.{ℕ, suc, ◌+◌, ◌-◌, ◌<◌}
 use native.Mathlib.Numerals.{add-one}
 use native.Mathlib.Omega.{arith}
-use lib.ListN.{length-set}
 use Rattle.complex.specs.declared.Complex.{Complex}
 use Rattle.layout.specs.declared.Layout.{Layout}
 use Rattle.layout.specs.Numbers.{split_of, first_channel_of}
@@ -31,10 +30,7 @@ added-sum-requires c =
     let end : c.first_channel-in-loop-p.result ≡ first_channel_of c.args.layout (suc p) = rw add-one at c.first_channel-in-loop-p.ensures in
     let rising = (spans c.args.layout p).rises in
     let few = (spans c.args.layout (suc p)).few in
-    (omega (arith, from, end, rising), (omega (arith, end, few), c.requires.0))
-
-pub bounds-row-p-in-loop-p : goal.bounds-row-p-in-loop-p
-bounds-row-p-in-loop-p c = simp length-set (omega (arith, c.loop-p.invariant.rowed.long))
+    (omega (arith, from, end, rising), (omega (arith, end, few), c.requires))
 
 pub loop-p-preserved : goal.loop-p-preserved
 loop-p-preserved c =
@@ -50,11 +46,8 @@ loop-p-preserved c =
       rowed =
           rowed_more (synthesised a.layout y) 0 p a.row.now c.loop-p.row c.added-sum.result c.loop-p.invariant.rowed
           (band a.layout y p from.result end.result c.added-sum.result more from.ensures end.ensures c.added-sum.ensures) (omega arith)
-          (omega (arith, more, c.requires.1, c.loop-p.invariant.few));
+          (omega (arith, more, c.loop-p.invariant.few));
     }
-
-pub shape_of-row : goal.shape_of-row
-shape_of-row c = c.loop-p.invariant.rowed.long
 
 pub returns : goal.returns
 returns c =

@@ -1,12 +1,8 @@
 -- `ps_allpass_channels::rows::lay` meets its contract: the band's two numbers are stored. Assumes nothing.
 use mathlib.Core.Path.{refl}
 use native.Mathlib.Omega.{arith}
-use lib.ListN.{length-set}
 use Rattle.ps_allpass_channels.proofs.Leaving.{rowed_none, rowed_more}
 use Rattle.ps_allpass_channels.proofs.rows.lay.Goals as goal
-
-pub bounds-row-q-2 : goal.bounds-row-q-2
-bounds-row-q-2 c = simp length-set (omega arith)
 
 pub returns : goal.returns
 returns c =

@@ -1,5 +1,5 @@
 -- `ps_allpass_channels::rows::leave_side` meets its contract: the unsplit bands come behind the split ones. Assumes nothing.
-use mathlib.Core.Path.{◌≡◌, refl, ◌∙◌}
+use mathlib.Core.Path.{◌≡◌, refl}
 use Prim.Native.Nat.{◌+◌, ◌-◌, ◌%◌}
 use native.Mathlib.Omega.{arith}
 use Rattle.layout.specs.declared.Layout.{Layout}
@@ -22,15 +22,20 @@ pass_unsplit-requires c =
     let split = c.split.ensures in
     let unsplit = c.unsplit_from.ensures in record {
       split_bound = (omega (arith, split, b.split), (omega (arith, split, unsplit, b.more), (omega (arith, split, unsplit, b.delayed, b.all_pass), rw (split, unsplit) (whole_desks c.args.layout))));
-      place_bound = (c.requires.0, c.add_split.ensures.long ∙ c.requires.1);
+      place_bound = c.requires.0;
     }
 
-pub returns : goal.returns
-returns c =
+pub returns-in-Some : goal.returns-in-Some
+returns-in-Some c =
     let l = c.args.layout in
     let y = standing c.args.desks.now c.args.place in
     let split : c.split.result ≡ split_of l = c.split.ensures in
     let unsplit : c.unsplit_from.result ≡ unsplit_from_of l = c.unsplit_from.ensures in
-    rowed_then (synthesised l y) (λ q. y (q + unsplit_from_of l - split_of l)) 0 (split_of l) 23 c.args.row.now c.add_split.new.row
+    let whole = c.in-Some.ensures.cases in
+    rw (← whole.same)
+    (rowed_then (synthesised l y) (λ q. y (q + unsplit_from_of l - split_of l)) 0 (split_of l) 23 _ c.add_split.new.row
     c.pass_unsplit.new.row c.add_split.ensures (rw (split, unsplit) at c.pass_unsplit.ensures) (omega arith)
-    (omega (arith, (bounds l).split)) (λ q u v. band_unsplit l y q u)
+    (omega (arith, (bounds l).split)) (λ q u v. band_unsplit l y q u))
+
+pub returns-in_default : goal.returns-in_default
+returns-in_default c = absurd (c.in_default.ensures.cases c.requires.1)

@@ -1,5 +1,5 @@
 -- `ps_allpass_channels::rows::pass_desks` meets its contract: after j turns the bands of j desks are their channels. Assumes nothing.
-use mathlib.Core.Path.{◌≡◌, ◌∙◌, ap}
+use mathlib.Core.Path.{◌≡◌, ap}
 use mathlib.Core.List.{List}
 use Prim.Native.Nat.{ℕ, ◌+◌, ◌-◌, ◌*◌, ◌/◌, ◌%◌, ◌<◌, ◌≤◌}
 use borrow.Author.Rules.{rules}
@@ -30,7 +30,7 @@ loop-j-init c = record { within = search rules; rowed = rowed_none _ 5 _ }
 pub pass_four-requires : goal.pass_four-requires
 pass_four-requires c =
     let more = c.loop-j-test.true in
-    record { at_bound = omega (arith, more, c.requires.0); q_bound = (omega (arith, more), c.loop-j.invariant.rowed.long ∙ c.requires.1) }
+    record { at_bound = omega (arith, more, c.requires); q_bound = omega (arith, more) }
 
 pub loop-j-preserved : goal.loop-j-preserved
 loop-j-preserved c =
@@ -40,9 +40,6 @@ loop-j-preserved c =
       within = omega (arith, more);
       rowed = one_more a.desks.now a.first c.loop-j.j a.row.now c.loop-j.row c.pass_four.new.row c.loop-j.invariant.rowed c.pass_four.ensures;
     }
-
-pub shape_of-row : goal.shape_of-row
-shape_of-row c = c.loop-j.invariant.rowed.long
 
 pub returns : goal.returns
 returns c =

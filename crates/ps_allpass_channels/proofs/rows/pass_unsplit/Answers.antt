@@ -1,5 +1,5 @@
 -- `ps_allpass_channels::rows::pass_unsplit` meets its contract: bands below 5, those of four desks, and two more. Assumes nothing.
-use mathlib.Core.Path.{◌≡◌, ◌∙◌, ap}
+use mathlib.Core.Path.{◌≡◌, ap}
 use mathlib.Core.List.{List}
 use Prim.Native.Nat.{ℕ, ◌+◌, ◌-◌, ◌*◌, ◌/◌, ◌%◌, ◌≤◌}
 use native.Mathlib.Omega.{arith}
@@ -31,7 +31,7 @@ module _ (desks : List Float) (place split unsplit : ℕ) where
 
 pub pass_desks-requires : goal.pass_desks-requires
 pass_desks-requires c =
-    (omega arith, c.pass_low.ensures.long ∙ c.requires.place_bound.1)
+    omega arith
 
 pub returns : goal.returns
 returns c =

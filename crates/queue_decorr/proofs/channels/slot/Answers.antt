@@ -10,8 +10,8 @@ pub channel-y-requires : goal.channel-y-requires
 channel-y-requires c =
     (c.loop-k.invariant.lent.table_is, rw c.size-width.ensures (lent_long _ _ _ _ _ c.loop-k.invariant c.loop-k-test.true))
 
-pub bounds-gains-b : goal.bounds-gains-b
-bounds-gains-b c =
+pub bounds-frame-b : goal.bounds-frame-b
+bounds-frame-b c =
     let here = room _ _ _ _ _ c.loop-k.invariant c.loop-k-test.true in
     omega (arith, here.band, here.gains_room)
 
