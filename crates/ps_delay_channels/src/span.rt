@@ -118,7 +118,7 @@ pub fn each(
     let map = ps_map::parameter_map(common.layout);
     let end = start + delay.bands;
     let mut k = start;
-    // Kept: a turn goes on where its span ends, which no range or iterator counts.
+    // Kept: a turn goes on where its span ends. `chunk_by` cuts the map so, but hands out bands and not the place, which would be counted by hand again.
     while k < end {
         let next = span_end(&map, k, end);
         let span = Span {
