@@ -32,7 +32,7 @@ use Rattle.ps_stereo_borders.specs.Borders.{kept_then, courses_then}
 use Rattle.ps_stereo_borders.specs.Steps.{copied}
 use Rattle.ps_stereo_borders.proofs.Parts.{numbers_kept, border_put}
 use Rattle.ps_stereo_borders.proofs.Phases.{then_next, phases_at, phases_part}
-use Rattle.ps_stereo_borders.proofs.Runs.{runs_cut, run_at, runs_part, runs_drop, runs_length}
+use Rattle.ps_stereo_borders.proofs.Runs.{runs_cut, run_at, runs_part, runs_drop}
 
 module _ (l : Layout) (h : Header) (indices : PsIndices) (directions : List ℤ) (matrices : List Float) (phases : List ℤ) where
   abbrev bands : ℕ

@@ -1,16 +1,15 @@
 -- The two cases of a band's coefficients, and its four phase indices. Assumes nothing.
 use mathlib.Core.Path.{◌≡◌, refl, sym, ap, ◌∙◌}
 use mathlib.Core.Bool.{true, false}
-use mathlib.Core.List.{List, [], ◌∷◌}
+use mathlib.Core.List.{List}
 use Prim.Native.Nat.{ℕ, ◌+◌}
 use native.Mathlib.Omega.{arith}
 use lib.IntN.{ℤ, pos}
-use lib.ListN.{length, get_or, set}
+use lib.ListN.{length, get_or}
 use Rattle.complex.specs.declared.Complex.{Complex}
 use Rattle.complex.specs.Operations.{product, conjugate}
 use Rattle.lists.specs.Part.{part}
 use Rattle.lists.specs.Rows.{rows, tabulate}
-use Rattle.lists.proofs.Front.{front_none, front_pair, front_all}
 use Rattle.lists.proofs.Maps.{copied}
 use Rattle.lists.proofs.Parts.{part_at}
 use Rattle.planar.specs.Frame.{ipd_of, opd_of, phase_numbers}

@@ -1,6 +1,5 @@
 -- `ps_delay_channels::delay_channels` meets its contract: lists of other lengths change nothing, and otherwise the frame is done. Assumes nothing.
 use native.Mathlib.Omega.{arith}
-use borrow.Author.Rules.{rules}
 use Rattle.layout.proofs.Bounds.{bounds}
 use Rattle.ps_delay_channels.proofs.Ending.{left_unfit, right_unfit, input_unfit, gains_unfit, rows_unfit, plain_unfit, fit, Outcome}
 use Rattle.ps_delay_channels.proofs.delay_channels.Goals as goal

@@ -2,7 +2,6 @@
 use mathlib.Core.Path.{◌≡◌}
 use Prim.Native.Nat.{◌+◌, ◌-◌, ◌*◌}
 use native.Mathlib.Omega.{arith}
-use borrow.Author.Rules.{rules}
 use Rattle.standard.specs.Numbers.{nought}
 use Rattle.ps_hybrid_analysis.proofs.Channels.{width, lent_long, written_none, written_lent, written_on}
 use Rattle.ps_hybrid_analysis.proofs.silence.Goals as goal

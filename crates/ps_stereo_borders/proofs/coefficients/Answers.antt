@@ -1,9 +1,8 @@
 -- `ps_stereo_borders::coefficients` meets its contract: lists without room stay, without envelopes only the kept coefficients are put in front, and the
 -- envelopes go on from them. Assumes nothing.
 use mathlib.Core.Path.{sym, ap, ◌∙◌}
-use Prim.Native.Nat.{ℕ, min, ◌*◌, ◌<◌, ◌≤◌}
+use Prim.Native.Nat.{ℕ, min, ◌*◌, ◌≤◌}
 use native.Mathlib.Omega.{arith}
-use borrow.Author.Rules.{rules}
 use lib.ListN.{length}
 use Rattle.layout.specs.Numbers.{bands_of}
 use Rattle.layout.proofs.Bounds.{bounds}

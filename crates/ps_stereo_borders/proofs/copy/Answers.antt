@@ -12,7 +12,6 @@ use Rattle.lists.proofs.Front.{front_long}
 use Rattle.lists.proofs.Parts.{part_length}
 use Rattle.lists.proofs.Rows.{Rowed, rowed_none}
 use Rattle.ps_stereo_envelope.proofs.Courses.{rowed_part}
-use Rattle.ps_stereo_borders.specs.Steps.{Room}
 use Rattle.ps_stereo_borders.proofs.Runs.{run_inside}
 use Rattle.ps_stereo_borders.proofs.copy.Invariants.{Inv}
 use Rattle.ps_stereo_borders.proofs.copy.Goals as goal

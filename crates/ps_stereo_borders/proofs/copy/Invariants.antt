@@ -1,18 +1,11 @@
-use mathlib.Core.Path.{◌≡◌, refl, ap, ◌∙◌}
+use mathlib.Core.Path.{◌≡◌}
 use mathlib.Core.List.{List}
-use Prim.Native.Nat.{ℕ, ◌+◌, ◌*◌, ◌-◌, ◌<◌, ◌≤◌}
-use native.Mathlib.Nat.{add-zero, add-sub_cancel_left}
-use native.Mathlib.Omega.{arith}
-use borrow.Author.Rules.{rules}
+use Prim.Native.Nat.{ℕ, ◌+◌, ◌*◌, ◌-◌, ◌≤◌}
 use lib.Ieee.{Float}
 use lib.ListN.{length}
 use Rattle.lists.specs.Part.{part, put}
-use Rattle.lists.proofs.Front.{front_long}
-use Rattle.lists.proofs.Parts.{part_length}
-use Rattle.lists.proofs.Rows.{Rowed, rowed_none}
-use Rattle.ps_stereo_envelope.proofs.Courses.{rowed_part}
+use Rattle.lists.proofs.Rows.{Rowed}
 use Rattle.ps_stereo_borders.specs.Steps.{Room}
-use Rattle.ps_stereo_borders.proofs.Runs.{run_inside}
 use Rattle.ps_stereo_borders.proofs.copy.Given as goal
 
 pub record Inv (bands : ℕ) (from : List Float) (run at : ℕ) (to₀ : List Float) (wide : ℕ) (to : List Float) (b : ℕ) : Type 0 where

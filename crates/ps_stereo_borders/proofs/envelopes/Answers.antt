@@ -1,21 +1,7 @@
 -- `ps_stereo_borders::envelopes` meets its contract: each turn writes the next border of every course and moves the phase indices. Assumes nothing.
 use mathlib.Core.Path.{◌≡◌, refl, ◌∙◌}
-use mathlib.Core.List.{List}
-use Prim.Native.Nat.{ℕ, ◌*◌, ◌-◌, ◌≤◌}
 use native.Mathlib.Omega.{arith}
-use borrow.Author.Rules.{rules}
-use lib.Ieee.{Float}
-use lib.IntN.{ℤ}
 use lib.ListN.{length}
-use Rattle.calls.specs.Call.{modes_of}
-use Rattle.cue.specs.declared.Config.{Config}
-use Rattle.cue.specs.declared.Header.{Header}
-use Rattle.layout.specs.declared.Layout.{Layout}
-use Rattle.layout.specs.Numbers.{bands_of}
-use Rattle.limits.specs.Limits as limits
-use Rattle.ps_data.specs.Indices.{PsIndices}
-use Rattle.standard.specs.declared.Modes.{Modes}
-use Rattle.ps_stereo_borders.specs.Steps.{Advanced}
 use Rattle.ps_stereo_borders.proofs.Turns.{turn_none, turn_more, turn_all}
 use Rattle.ps_stereo_borders.proofs.envelopes.Goals as goal
 

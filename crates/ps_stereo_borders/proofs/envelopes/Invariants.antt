@@ -1,8 +1,6 @@
-use mathlib.Core.Path.{◌≡◌, refl, ◌∙◌}
+use mathlib.Core.Path.{◌≡◌}
 use mathlib.Core.List.{List}
 use Prim.Native.Nat.{ℕ, ◌*◌, ◌-◌, ◌≤◌}
-use native.Mathlib.Omega.{arith}
-use borrow.Author.Rules.{rules}
 use lib.Ieee.{Float}
 use lib.IntN.{ℤ}
 use lib.ListN.{length}
@@ -15,7 +13,6 @@ use Rattle.limits.specs.Limits as limits
 use Rattle.ps_data.specs.Indices.{PsIndices}
 use Rattle.standard.specs.declared.Modes.{Modes}
 use Rattle.ps_stereo_borders.specs.Steps.{Advanced}
-use Rattle.ps_stereo_borders.proofs.Turns.{turn_none, turn_more, turn_all}
 use Rattle.ps_stereo_borders.proofs.envelopes.Given as goal
 
 -- of every header with these modes and this configuration

@@ -1,5 +1,4 @@
 -- `ps_stereo_borders::modes_of` meets its contract: the two tests are the configuration's own. Assumes nothing.
-use borrow.Author.Rules.{rules}
 use Rattle.ps_stereo_borders.proofs.modes_of.Goals as goal
 
 pub returns : goal.returns

@@ -1,26 +1,16 @@
-use mathlib.Core.Path.{◌≡◌, refl, ap, ◌∙◌}
+use mathlib.Core.Path.{◌≡◌}
 use mathlib.Core.List.{List}
 use Prim.Native.Nat.{ℕ, ◌+◌, ◌*◌, ◌<◌, ◌≤◌, ◌-◌}
-use native.Mathlib.Nat.{add-sub_cancel_left}
-use native.Mathlib.Omega.{arith}
-use borrow.Author.Rules.{rules}
 use lib.Ieee.{Float}
-use lib.IntN.{ℤ, pos}
-use lib.ListN.{length, get_or}
-use mir.Syntax.{w8}
-use Rattle.integers.proofs.Bits.{back}
-use Rattle.layout.specs.Numbers.{bands_of}
-use Rattle.layout.proofs.Bounds.{bounds}
+use lib.IntN.{ℤ}
+use lib.ListN.{length}
 use Rattle.limits.specs.Limits as limits
 use Rattle.lists.specs.Part.{part, put}
-use Rattle.lists.proofs.Front.{front_long, front_lent}
-use Rattle.lists.proofs.Parts.{part_length}
-use Rattle.lists.proofs.Rows.{Rowed, rowed_none, rowed_more}
+use Rattle.lists.proofs.Rows.{Rowed}
 use Rattle.planar.specs.Frame.{numbers_of}
 use Rattle.standard.specs.Mixing.{Cues}
 use Rattle.standard.specs.declared.Modes.{Modes}
-use Rattle.ps_stereo_envelope.specs.Envelope.{cue_of, phases_of, matrix_at, phases_then, rows_then, kept_then}
-use Rattle.ps_stereo_envelope.proofs.Courses.{rowed_part}
+use Rattle.ps_stereo_envelope.specs.Envelope.{cue_of, phases_of, matrix_at, phases_then}
 use Rattle.ps_stereo_envelope.proofs.each.Given as goal
 
 -- band b's course after the turn

@@ -1,11 +1,9 @@
 -- `ps_stereo_envelope::envelope` meets its contract: what is too late or has no room changes nothing. Assumes nothing.
 use mathlib.Core.Path.{◌∙◌}
-use Prim.Native.Nat.{◌*◌, ◌<◌, ◌≤◌}
+use Prim.Native.Nat.{◌*◌, ◌≤◌}
 use native.Mathlib.Omega.{arith}
-use borrow.Author.Rules.{rules}
 use lib.ListN.{length}
 use Rattle.layout.specs.Numbers.{bands_of}
-use Rattle.layout.proofs.Bounds.{bounds}
 use Rattle.limits.specs.Limits as limits
 use Rattle.ps_stereo_envelope.proofs.Fits as fits
 use Rattle.ps_stereo_envelope.proofs.envelope.Goals as goal

@@ -1,5 +1,4 @@
 -- `ps_stereo_envelope::rotated` meets its contract: the five products, each by what it multiplies. Assumes nothing.
-use borrow.Author.Rules.{rules}
 use Rattle.standard.specs.Mixing.{rotated_by}
 use Rattle.ps_stereo_envelope.proofs.rotated.Goals as goal
 

@@ -1,18 +1,13 @@
 -- `ps_stereo_slots::envelopes` meets its contract: each turn fills one envelope's region, and the slots after the last border hold. Assumes nothing.
 use mathlib.Core.Path.{◌≡◌, refl, ap, ◌∙◌}
-use mathlib.Core.List.{List}
-use Prim.Native.Nat.{ℕ, ◌+◌, ◌*◌, ◌-◌, ◌≤◌, min}
-use borrow.Author.Rules.{rules}
+use Prim.Native.Nat.{ℕ, ◌+◌, ◌*◌, ◌-◌, min}
 use native.Mathlib.Omega.{arith}
-use lib.Ieee.{Float}
 use Rattle.lists.specs.Part.{part}
 use Rattle.planar.specs.Frame.{kept_matrix}
-use Rattle.standard.specs.declared.Matrix.{Matrix}
-use Rattle.standard.specs.Interpolation.{start}
 use Rattle.ps_stereo_slots.specs.Slots.{fraction_at}
 use Rattle.ps_stereo_slots.specs.Regions.{row_matrix}
 use Rattle.ps_stereo_slots.proofs.Borders.{start_next, lent_fraction}
-use Rattle.ps_stereo_slots.proofs.Filled.{Filled, filled_none, region_filled, filled_held}
+use Rattle.ps_stereo_slots.proofs.Filled.{filled_none, region_filled, filled_held}
 use Rattle.ps_stereo_slots.proofs.envelopes.Goals as goal
 
 pub loop-e-init : goal.loop-e-init

@@ -1,17 +1,12 @@
-use mathlib.Core.Path.{◌≡◌, refl, ap, ◌∙◌}
+use mathlib.Core.Path.{◌≡◌}
 use mathlib.Core.List.{List}
-use Prim.Native.Nat.{ℕ, ◌+◌, ◌*◌, ◌-◌, ◌≤◌, min}
-use borrow.Author.Rules.{rules}
-use native.Mathlib.Omega.{arith}
+use Prim.Native.Nat.{ℕ, ◌-◌, ◌≤◌}
 use lib.Ieee.{Float}
-use Rattle.lists.specs.Part.{part}
-use Rattle.planar.specs.Frame.{kept_matrix}
 use Rattle.standard.specs.declared.Matrix.{Matrix}
 use Rattle.standard.specs.Interpolation.{start}
 use Rattle.ps_stereo_slots.specs.Slots.{fraction_at}
 use Rattle.ps_stereo_slots.specs.Regions.{row_matrix}
-use Rattle.ps_stereo_slots.proofs.Borders.{start_next, lent_fraction}
-use Rattle.ps_stereo_slots.proofs.Filled.{Filled, filled_none, region_filled, filled_held}
+use Rattle.ps_stereo_slots.proofs.Filled.{Filled}
 use Rattle.ps_stereo_slots.proofs.envelopes.Given as goal
 
 pub record Inv (rows : List Float) (at : ℕ) (fractions : List Float) (borders : List ℕ) (count slots : ℕ) (old out : List Float) (from : Matrix) (first e : ℕ) : Type 0 where

@@ -1,7 +1,6 @@
 -- `ps_stereo_slots::first_slot` meets its contract: but for the first envelope it is the slot after a border. Assumes nothing.
 use mathlib.Core.Path.{sym, ◌∙◌}
 use native.Mathlib.Numerals.{add-one}
-use borrow.Author.Rules.{rules}
 use Rattle.ps_stereo_slots.proofs.Borders.{start_after}
 use Rattle.ps_stereo_slots.proofs.first_slot.Goals as goal
 

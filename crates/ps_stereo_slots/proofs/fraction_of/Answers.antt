@@ -1,6 +1,5 @@
 -- `ps_stereo_slots::fraction_of` meets its contract: the slots passed over the slots of the region, each a whole number. Assumes nothing.
 use native.Mathlib.Numerals.{add-one}
-use borrow.Author.Rules.{rules}
 use lib.ListN.{get_or}
 use Rattle.standard.specs.Interpolation.{fraction}
 use Rattle.standard.specs.Numbers.{◌⊘◌}

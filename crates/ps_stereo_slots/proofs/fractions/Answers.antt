@@ -4,7 +4,6 @@ use Prim.Native.Nat.{◌*◌}
 use native.Mathlib.Omega.{arith}
 use lib.ListN.{length}
 use Rattle.limits.specs.Limits as limits
-use Rattle.lists.proofs.Front.{front_long}
 use Rattle.lists.proofs.Maps.{tabulated_none, tabulated_more}
 use Rattle.ps_stereo_slots.specs.Slots.{fractions_after}
 use Rattle.ps_stereo_slots.proofs.Borders.{fractions_taken, partly}

@@ -1,11 +1,6 @@
-use mathlib.Core.Path.{◌≡◌}
-use Prim.Native.Nat.{◌≤◌, ◌-◌, ◌*◌, ◌/◌, ◌%◌}
-use borrow.Author.Rules.{rules}
-use native.Mathlib.Omega.{arith}
-use Rattle.lists.proofs.Front.{front_long}
-use Rattle.lists.proofs.Maps.{Tabulated, tabulated_none, tabulated_more}
+use Prim.Native.Nat.{◌/◌, ◌%◌}
+use Rattle.lists.proofs.Maps.{Tabulated}
 use Rattle.standard.specs.Interpolation.{fraction}
-use Rattle.ps_stereo_slots.proofs.Borders.{partly}
 use Rattle.ps_stereo_slots.proofs.fractions.Given as goal
 
 abbrev pub invariant-loop-i : goal.invariant-loop-i

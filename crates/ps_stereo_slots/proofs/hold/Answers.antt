@@ -1,10 +1,7 @@
 -- `ps_stereo_slots::hold` meets its contract: each turn stores the coefficients in one slot more. Assumes nothing.
 use mathlib.Core.Path.{refl}
-use mathlib.Core.Logic.{◌⊎◌, inl, inr}
-use Prim.Native.Nat.{◌≤◌, ◌-◌}
-use borrow.Author.Rules.{rules}
+use mathlib.Core.Logic.{inl, inr}
 use native.Mathlib.Omega.{arith}
-use Rattle.ps_stereo_slots.specs.Regions.{Written}
 use Rattle.ps_stereo_slots.proofs.Filled.{written_none, written_more, written_all}
 use Rattle.ps_stereo_slots.proofs.hold.Goals as goal
 

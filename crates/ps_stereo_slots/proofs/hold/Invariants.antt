@@ -1,10 +1,6 @@
-use mathlib.Core.Path.{refl}
-use mathlib.Core.Logic.{◌⊎◌, inl, inr}
+use mathlib.Core.Logic.{◌⊎◌}
 use Prim.Native.Nat.{◌≤◌, ◌-◌}
-use borrow.Author.Rules.{rules}
-use native.Mathlib.Omega.{arith}
 use Rattle.ps_stereo_slots.specs.Regions.{Written}
-use Rattle.ps_stereo_slots.proofs.Filled.{written_none, written_more, written_all}
 use Rattle.ps_stereo_slots.proofs.hold.Given as goal
 
 abbrev pub invariant-loop-n : goal.invariant-loop-n

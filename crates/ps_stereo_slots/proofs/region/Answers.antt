@@ -1,13 +1,7 @@
 -- `ps_stereo_slots::region` meets its contract: each turn stores from + step t in one slot more. Assumes nothing.
-use mathlib.Core.Path.{refl}
-use mathlib.Core.Logic.{◌⊎◌, inl, inr}
-use Prim.Native.Nat.{◌≤◌, ◌-◌}
-use borrow.Author.Rules.{rules}
+use mathlib.Core.Logic.{inl, inr}
 use native.Mathlib.Omega.{arith}
-use lib.Ieee.{nan}
-use lib.ListN.{get_or}
 use Rattle.standard.specs.Interpolation.{towards, between}
-use Rattle.ps_stereo_slots.specs.Regions.{stepped, Written}
 use Rattle.ps_stereo_slots.proofs.Filled.{written_none, written_more, written_all}
 use Rattle.ps_stereo_slots.proofs.region.Goals as goal
 

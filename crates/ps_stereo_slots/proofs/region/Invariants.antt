@@ -1,13 +1,8 @@
-use mathlib.Core.Path.{refl}
-use mathlib.Core.Logic.{◌⊎◌, inl, inr}
+use mathlib.Core.Logic.{◌⊎◌}
 use Prim.Native.Nat.{◌≤◌, ◌-◌}
-use borrow.Author.Rules.{rules}
-use native.Mathlib.Omega.{arith}
 use lib.Ieee.{nan}
 use lib.ListN.{get_or}
-use Rattle.standard.specs.Interpolation.{towards, between}
 use Rattle.ps_stereo_slots.specs.Regions.{stepped, Written}
-use Rattle.ps_stereo_slots.proofs.Filled.{written_none, written_more, written_all}
 use Rattle.ps_stereo_slots.proofs.region.Given as goal
 
 abbrev pub invariant-loop-n : goal.invariant-loop-n

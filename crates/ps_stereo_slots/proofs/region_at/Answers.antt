@@ -1,6 +1,5 @@
 -- `ps_stereo_slots::region_at` meets its contract: up to the last border one envelope has the slot, after it none. Assumes nothing.
 use mathlib.Core.Path.{◌≡◌, sym, ◌∙◌}
-use borrow.Author.Rules.{rules}
 use native.Mathlib.Omega.{arith}
 use Rattle.ps_stereo_slots.proofs.Borders.{start_after}
 use Rattle.ps_stereo_slots.proofs.Located.{region_before, region_past}

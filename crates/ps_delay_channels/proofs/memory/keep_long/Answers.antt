@@ -1,10 +1,9 @@
 -- `ps_delay_channels::memory::keep_long` meets its contract: a turn writes one slot's row over the one of 14 slots before. Assumes nothing.
 use mathlib.Core.Path.{sym, ◌∙◌}
 use Prim.Native.Nat.{◌+◌, ◌*◌, ◌-◌, ◌%◌}
-use borrow.Author.Rules.{rules}
 use native.Mathlib.Omega.{arith}
 use Rattle.ps_delay_channels.proofs.Bands.{width, lent_long}
-use Rattle.ps_delay_channels.proofs.Keeping.{Keeping, keeping_none, keeping_more, keeping_all}
+use Rattle.ps_delay_channels.proofs.Keeping.{keeping_none, keeping_more, keeping_all}
 use Rattle.ps_delay_channels.proofs.memory.keep_long.Goals as goal
 
 pub loop-n-init : goal.loop-n-init

@@ -1,9 +1,5 @@
-use mathlib.Core.Path.{sym, ◌∙◌}
-use Prim.Native.Nat.{◌+◌, ◌*◌, ◌-◌, ◌%◌}
-use borrow.Author.Rules.{rules}
-use native.Mathlib.Omega.{arith}
-use Rattle.ps_delay_channels.proofs.Bands.{width, lent_long}
-use Rattle.ps_delay_channels.proofs.Keeping.{Keeping, keeping_none, keeping_more, keeping_all}
+use Prim.Native.Nat.{◌-◌}
+use Rattle.ps_delay_channels.proofs.Keeping.{Keeping}
 use Rattle.ps_delay_channels.proofs.memory.keep_long.Given as goal
 
 abbrev pub invariant-loop-n : goal.invariant-loop-n

@@ -1,7 +1,6 @@
 -- `ps_delay_channels::memory::keep_short` meets its contract: a frame of no slots keeps the memory, and any other copies its last slot. Assumes nothing.
 use mathlib.Core.Path.{sym, ◌∙◌}
 use Prim.Native.Nat.{◌+◌, ◌*◌, ◌-◌}
-use borrow.Author.Rules.{rules}
 use native.Mathlib.Omega.{arith}
 use Rattle.ps_delay_channels.proofs.Bands.{width, lent_long}
 use Rattle.ps_delay_channels.proofs.Keeping.{short_stays, short_copied}

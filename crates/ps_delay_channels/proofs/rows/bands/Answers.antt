@@ -3,14 +3,12 @@ use mathlib.Core.Path.{◌≡◌, ap, ◌∙◌}
 use Rattle.std.proofs.Common.{Bor}
 use Rattle.lists.specs.Part.{part}
 use mathlib.Core.List.{List}
-use Prim.Native.Nat.{ℕ, ◌+◌, ◌*◌, ◌-◌, ◌%◌, ◌<◌, ◌≤◌}
-use borrow.Author.Rules.{rules}
+use Prim.Native.Nat.{◌+◌, ◌*◌, ◌-◌, ◌%◌, ◌<◌}
 use native.Mathlib.Omega.{arith}
 use lib.ListN.{length}
 use lib.Ieee.{Float}
 use Rattle.standard.specs.Mixing.{left_of, right_of}
-use Rattle.ps_delay_channels.specs.declared.rows.Delay.{Delay}
-use Rattle.ps_delay_channels.proofs.Bands.{Banding, banding_none, banding_all, banding_kept, banding_came, mixing, width, lent_long, row_room}
+use Rattle.ps_delay_channels.proofs.Bands.{banding_none, banding_all, banding_kept, banding_came, width, lent_long, row_room}
 use Rattle.ps_delay_channels.proofs.rows.bands.Goals as goal
 use Rattle.ps_delay_channels.proofs.rows.bands.Goals.{then-n-delay, else-n-delay}
 

@@ -1,13 +1,9 @@
-use mathlib.Core.Path.{◌≡◌}
-use mathlib.Core.Logic.{⊎_elim}
 use mathlib.Core.List.{List}
-use Prim.Native.Nat.{ℕ, ◌+◌, ◌*◌, ◌-◌, ◌%◌, ◌<◌, ◌≤◌}
-use borrow.Author.Rules.{rules}
-use native.Mathlib.Omega.{arith}
+use Prim.Native.Nat.{ℕ, ◌-◌, ◌≤◌}
 use lib.Ieee.{Float}
 use Rattle.standard.specs.Mixing.{left_of, right_of}
 use Rattle.ps_delay_channels.specs.declared.rows.Delay.{Delay}
-use Rattle.ps_delay_channels.proofs.Bands.{Banding, banding_none, banding_all, banding_kept, banding_came, mixing, width, lent_long, row_room}
+use Rattle.ps_delay_channels.proofs.Bands.{Banding, mixing}
 use Rattle.ps_delay_channels.proofs.rows.bands.Given as goal
 
 pub record Inv (runs gains input before : List Float) (d : Delay) (from count slots : ℕ) (left₀ right₀ left right : List Float) (n : ℕ) : Type 0 where

@@ -1,16 +1,12 @@
 -- `ps_delay_channels::rows::weigh` meets its contract: after j turns the first j bands of both sides are weighed. Assumes nothing.
 use mathlib.Core.Path.{◌≡◌}
-use mathlib.Core.List.{List}
-use Prim.Native.Nat.{ℕ, ◌*◌, ◌-◌, ◌<◌, ◌≤◌}
-use borrow.Author.Rules.{rules}
+use Prim.Native.Nat.{◌*◌, ◌<◌}
 use native.Mathlib.Omega.{arith}
-use lib.Ieee.{Float}
 use lib.ListN.{length-set}
 use Rattle.complex.specs.Operations.{scaled}
 use Rattle.planar.specs.Cells.{cell}
-use Rattle.standard.specs.Mixing.{left_of, right_of}
-use Rattle.planar.proofs.Pairs.{Paired, paired_none, paired_more}
-use Rattle.ps_delay_channels.proofs.Slots.{weighing, left_drawn, right_drawn, left_drawn_lem, right_drawn_lem}
+use Rattle.planar.proofs.Pairs.{paired_none, paired_more}
+use Rattle.ps_delay_channels.proofs.Slots.{left_drawn, right_drawn, left_drawn_lem, right_drawn_lem}
 use Rattle.ps_delay_channels.proofs.rows.weigh.Goals as goal
 
 pub loop-j-init : goal.loop-j-init

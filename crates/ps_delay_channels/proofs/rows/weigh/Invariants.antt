@@ -1,15 +1,9 @@
-use mathlib.Core.Path.{◌≡◌}
 use mathlib.Core.List.{List}
-use Prim.Native.Nat.{ℕ, ◌*◌, ◌-◌, ◌<◌, ◌≤◌}
-use borrow.Author.Rules.{rules}
-use native.Mathlib.Omega.{arith}
+use Prim.Native.Nat.{ℕ, ◌-◌, ◌≤◌}
 use lib.Ieee.{Float}
-use lib.ListN.{length-set}
-use Rattle.complex.specs.Operations.{scaled}
-use Rattle.planar.specs.Cells.{cell}
 use Rattle.standard.specs.Mixing.{left_of, right_of}
-use Rattle.planar.proofs.Pairs.{Paired, paired_none, paired_more}
-use Rattle.ps_delay_channels.proofs.Slots.{weighing, left_drawn, right_drawn, left_drawn_lem, right_drawn_lem}
+use Rattle.planar.proofs.Pairs.{Paired}
+use Rattle.ps_delay_channels.proofs.Slots.{weighing}
 use Rattle.ps_delay_channels.proofs.rows.weigh.Given as goal
 
 pub record Inv (runs : List Float) (n : ℕ) (factor : Float) (count : ℕ) (samples delayed left₀ right₀ left right : List Float) (j : ℕ) : Type 0 where

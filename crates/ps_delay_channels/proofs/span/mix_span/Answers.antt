@@ -3,7 +3,6 @@ use mathlib.Core.Path.{◌≡◌}
 use Prim.Native.Nat.{◌*◌, min}
 use native.Mathlib.Nat.{add-sub_cancel_left}
 use native.Mathlib.Omega.{arith}
-use borrow.Author.Rules.{rules}
 use Rattle.lists.proofs.Parts.{part_length}
 use Rattle.ps_delay_channels.proofs.Spans.{mixed_sides}
 use Rattle.ps_delay_channels.proofs.span.mix_span.Goals as goal
