@@ -86,6 +86,7 @@ pub fn read_some(
 }
 
 // Reads until the memory is full or the file ends.
+// Kept: a loop of reads: (a) the count of the bytes before the file's end is promised, and `read_exact` does not say it.
 pub fn read_all(
     rt: &(impl Env + Eprint),
     place: usize,
