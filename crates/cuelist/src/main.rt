@@ -5,13 +5,11 @@
 mod text;
 
 use answer::Answer;
+use programme::files::{HELD, PIECE};
 use ps_data::{PsIndices, PsLines};
 use std::io::{ErrorKind, Read};
 use std::process::ExitCode;
 use text::Text;
-
-// A line of more characters than the longest has is refused whatever they are, so one more than that is all that is held of it.
-const HELD: usize = limits::DIGITS + 1;
 
 // What became of the output: all was written so far, or not all, or it has no reader any more.
 #[derive(Clone, Copy, Debug, PartialEq, Eq)]
@@ -73,7 +71,7 @@ fn conclude(rt: &impl Eprint, listing: &Listing) -> ExitCode {
 fn main(rt: HostRuntime) -> ExitCode {
     let mut line = text_lines::Line::<HELD>::new();
     let mut reader = rt.stdin();
-    let mut input = [0u8; 65536];
+    let mut input = [0u8; PIECE];
     let mut listing = Listing {
         lines: ps_data::fresh(),
         number: 0,

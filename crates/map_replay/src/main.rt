@@ -89,9 +89,7 @@ fn main(rt: HostRuntime) {
     let _ = match replay(&mut rt.stdin()) {
         Ok(count) => println!(rt; "{count} rows are mapped as the Rust maps them"),
         Err(Broken { held }) => {
-            println!(rt;
-                "{held} rows are mapped as the Rust maps them; the next is not, or is cut"
-            )
+            println!(rt; "{held} rows are mapped as the Rust maps them; the next is not, or is cut")
         }
     };
 }

@@ -12,6 +12,12 @@ pub const LINES: usize = 3;
 
 pub const SAMPLES: usize = 4;
 
+// As many bytes as are read and written at a time.
+pub const PIECE: usize = 65536;
+
+// A cue line of more characters than the longest has is refused whatever they are, so one more than that is all that is held of it.
+pub const HELD: usize = limits::DIGITS + 1;
+
 // Something failed, and what the system refused has been told.
 #[derive(Clone, Copy, Debug, PartialEq, Eq)]
 pub struct Failed;

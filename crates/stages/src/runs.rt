@@ -49,7 +49,12 @@ impl Run {
     }
 
     // A call with what it hands in, which stands behind its head. What an accepted call has behind it, both sides, is passed over.
-    fn call(&mut self, rt: &impl Print, reader: &mut impl Read, record: Head) -> Result<(), Broken> {
+    fn call(
+        &mut self,
+        rt: &impl Print,
+        reader: &mut impl Read,
+        record: Head,
+    ) -> Result<(), Broken> {
         if !record.fits() {
             return Err(Broken);
         }
