@@ -5,31 +5,37 @@
 mod text;
 
 use answer::Answer;
+use programme::files::{HELD, PIECE};
 use ps_data::{PsIndices, PsLines};
 use std::io::{ErrorKind, Read};
 use std::process::ExitCode;
 use text::Text;
 
-// A line of more characters than the longest has is refused whatever they are, so one more than that is all that is held of it.
-const HELD: usize = limits::DIGITS + 1;
+// What became of the output: all was written so far, or not all, or it has no reader any more.
+#[derive(Clone, Copy, Debug, PartialEq, Eq)]
+enum Output {
+    Written,
+    Lost,
+    Unread,
+}
 
-// What is carried from line to line: what the lines so far have left, the number of the last line and its text, whether all was written so far, and whether
-// the output still has a reader.
+// What is carried from line to line: what the lines so far have left, the number of the last line and its text, and what became of the output.
 #[derive(Clone, Copy)]
 struct Listing {
     lines: PsLines,
     number: u64,
     text: Text,
-    written: bool,
-    open: bool,
+    output: Output,
 }
 
 impl Listing {
     fn write(&mut self, out: &impl Print, answer: Answer, indices: &PsIndices) {
         self.text.put_line(self.number, answer, indices);
         if let Err(error) = out.write_all(self.text.bytes()) {
-            self.written = false;
-            self.open = self.open && error.kind() != ErrorKind::BrokenPipe;
+            self.output = match (self.output, error.kind()) {
+                (Output::Unread, _) | (_, ErrorKind::BrokenPipe) => Output::Unread,
+                _ => Output::Lost,
+            };
         }
     }
 
@@ -52,11 +58,12 @@ const UNREAD: u8 = 141;
 
 // But for that the program has no exit status: the launcher takes what is said here for a failure.
 fn conclude(rt: &impl Eprint, listing: &Listing) -> ExitCode {
-    if !listing.open {
-        return ExitCode::from(UNREAD);
-    }
-    if !listing.written {
-        let _ = eprintln!(rt; "lefasumu: standard output: not all could be written");
+    match listing.output {
+        Output::Unread => return ExitCode::from(UNREAD),
+        Output::Lost => {
+            let _ = eprintln!(rt; "lefasumu: standard output: not all could be written");
+        }
+        Output::Written => {}
     }
     ExitCode::SUCCESS
 }
@@ -64,19 +71,18 @@ fn conclude(rt: &impl Eprint, listing: &Listing) -> ExitCode {
 fn main(rt: HostRuntime) -> ExitCode {
     let mut line = text_lines::Line::<HELD>::new();
     let mut reader = rt.stdin();
-    let mut input = [0u8; 65536];
+    let mut input = [0u8; PIECE];
     let mut listing = Listing {
         lines: ps_data::fresh(),
         number: 0,
         text: Text::new(),
-        written: true,
-        open: true,
+        output: Output::Written,
     };
     // A proved loop has to end: no input uses up these turns. What cannot be read ends the input too.
     for _ in 0..u64::MAX {
         let used = reader.read(&mut input).unwrap_or(0);
         line.each(&input[..used], |text| listing.list_line(&rt, text));
-        if used == 0 || !listing.open {
+        if used == 0 || listing.output == Output::Unread {
             break;
         }
     }

@@ -45,7 +45,7 @@ fn holds(record: &[u8; RECORD]) -> bool {
 }
 
 // Reads until the memory is full, the input ends or a read fails, and answers how many bytes came.
-// Kept: a loop of reads, for `read_exact` does not say how many bytes came before the input's end, and records before it count.
+// Kept: a loop of reads: (a) the program prints how many records came before the input's end, and `read_exact` does not say how many bytes did.
 fn read_full(reader: &mut impl Read, bytes: &mut [u8]) -> usize
     ensures { result ≤ length bytes.new }
 {
@@ -59,8 +59,14 @@ fn read_full(reader: &mut impl Read, bytes: &mut [u8]) -> usize
     done
 }
 
-// How many records hold. Where one does not hold or is cut, it is an error, with how many hold before it.
-fn replay(reader: &mut impl Read) -> Result<usize, usize> {
+// A record does not hold, or is cut: how many hold before it.
+#[derive(Clone, Copy)]
+struct Broken {
+    held: usize,
+}
+
+// How many records hold.
+fn replay(reader: &mut impl Read) -> Result<usize, Broken> {
     let mut bytes = [0; PIECE];
     let mut count = 0usize;
     // A proved loop has to end: no input uses up these turns.
@@ -73,7 +79,7 @@ fn replay(reader: &mut impl Read) -> Result<usize, usize> {
         let held = records.iter().take_while(|record| holds(record)).count();
         count = count.wrapping_add(held);
         if held < records.len() || !rest.is_empty() {
-            return Err(count);
+            return Err(Broken { held: count });
         }
     }
     Ok(count)
@@ -82,10 +88,8 @@ fn replay(reader: &mut impl Read) -> Result<usize, usize> {
 fn main(rt: HostRuntime) {
     let _ = match replay(&mut rt.stdin()) {
         Ok(count) => println!(rt; "{count} rows are mapped as the Rust maps them"),
-        Err(count) => {
-            println!(rt;
-                "{count} rows are mapped as the Rust maps them; the next is not, or is cut"
-            )
+        Err(Broken { held }) => {
+            println!(rt; "{held} rows are mapped as the Rust maps them; the next is not, or is cut")
         }
     };
 }

@@ -1,8 +1,6 @@
-// Chance, by the generator of oracle/README.md.
-
-pub fn step(x: u32) -> u32 {
-    x.wrapping_mul(1664525).wrapping_add(1013904223)
-}
+// Chance, by the generator that streams have too.
+use super::runs::Turn;
+pub use run_stream::chance::step;
 
 // From a seed another one for each number.
 pub fn branch(seed: u32, number: u32) -> u32 {
@@ -10,11 +8,17 @@ pub fn branch(seed: u32, number: u32) -> u32 {
 }
 
 // What a run draws at a step: where the runs agree the step's own number, elsewhere another one for each run.
-pub fn drawn(x: u32, run: u32, agreed: bool) -> u32 {
+pub fn drawn(x: u32, turn: Turn, agreed: bool) -> u32 {
     if agreed {
         return x;
     }
-    branch(x, if run == 0 { 2863311530 } else { 858993459 })
+    branch(
+        x,
+        match turn {
+            Turn::First => 2863311530,
+            Turn::Second => 858993459,
+        },
+    )
 }
 
 // One of the numbers below n.

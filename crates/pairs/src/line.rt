@@ -3,15 +3,11 @@ use super::runs::Run;
 use super::scene::{KINDS, Kind, Said};
 use super::{chance, scene};
 use layout::Layout;
-
-const HEX: [u8; 16] = *b"0123456789abcdef";
+use std::io::{Cursor, Write};
 
 // A line's characters, as far as there is room.
-#[derive(Clone, Copy)]
-pub struct Line {
-    text: [u8; limits::DIGITS],
-    used: usize,
-}
+#[derive(Drop)]
+pub struct Line(Cursor<[u8; limits::DIGITS]>);
 
 // How many indices a row of a kind has: the lowest bands alone have phases.
 fn count_of(layout: Layout, kind: Kind) -> usize {
@@ -32,25 +28,21 @@ fn values_of(kind: Kind, fine: bool) -> u32 {
 }
 
 // Which of the values of an index, from the lowest, is 0.
-fn zero_of(values: u32) -> u32 {
-    if values == 8 { 0 } else { values / 2 }
+fn zero_of(kind: Kind, fine: bool) -> u32 {
+    match kind {
+        Kind::Iid => values_of(kind, fine) / 2,
+        Kind::Icc | Kind::Ipd | Kind::Opd => 0,
+    }
 }
 
 impl Line {
     pub fn characters(&self) -> &[u8] {
-        &self.text[..self.used.min(limits::DIGITS)]
-    }
-
-    fn put_digit(&mut self, digit: u8) {
-        if let Some(place) = self.text.get_mut(self.used) {
-            *place = HEX[usize::from(digit % 16)];
-            self.used += 1;
-        }
+        let used = (self.0.position() as usize).min(limits::DIGITS);
+        &self.0.get_ref()[..used]
     }
 
     fn put_byte(&mut self, byte: u8) {
-        self.put_digit(byte / 16);
-        self.put_digit(byte % 16);
+        let _ = write!(self.0, "{byte:02x}");
     }
 
     // The difference of two values of an index, as a signed byte.
@@ -62,11 +54,11 @@ impl Line {
     // band's own index before.
     fn put_row(&mut self, run: &Run, kind: Kind, fine: bool, by_time: bool, seed: u32) {
         let values = values_of(kind, fine);
-        let mut base = zero_of(values);
+        let mut base = zero_of(kind, fine);
         let mut x = seed;
         self.put_byte(u8::from(by_time));
         for band in 0..count_of(run.layout, kind) {
-            let drawn = chance::drawn(x, run.number, run.bands.has(band));
+            let drawn = chance::drawn(x, run.turn, run.bands.has(band));
             let value = chance::below(drawn, values);
             self.put_delta(value, base);
             if !by_time {
@@ -114,10 +106,7 @@ impl Line {
 }
 
 pub fn line_of(run: &Run, frame: u32, seed: u32) -> Line {
-    let mut line = Line {
-        text: [0; limits::DIGITS],
-        used: 0,
-    };
+    let mut line = Line(Cursor::new([0; limits::DIGITS]));
     if let Some(said) = scene::said_in(frame) {
         line.put_head(run.layout, said);
         line.put_borders(said.borders, scene::slots_of(run.pair), seed);

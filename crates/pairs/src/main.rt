@@ -11,16 +11,13 @@ mod scene;
 mod sound;
 
 use layout::Layout;
+use marks::Agreed;
 use runs::{Counts, Pair};
 
 // Which pair does not stand, and how: a number that differs, or a frame that was not accepted, or free QMF bands that came out alike, by which the comparison
 // would tell nothing.
-fn say_fault(rt: &impl Print, bands: usize, number: usize, pair: Pair) {
-    let _ = if number < bands {
-        print!(rt; "{bands} bands: stereo band {number}")
-    } else {
-        print!(rt; "{bands} bands: split QMF band {}", number - bands)
-    };
+fn say_fault(rt: &impl Print, bands: usize, agreed: Agreed, pair: Pair) {
+    let _ = print!(rt; "{bands} bands: {agreed}");
     let _ = match pair.first {
         Some((side, at)) if pair.all_accepted() => {
             let frame = at / 4096;
@@ -39,7 +36,7 @@ fn play_pairs(rt: &impl Print, layout: Layout, pairs: u32) {
     for number in 0..pairs {
         let pair = runs::play_pair(layout, number);
         if !pair.stands() {
-            say_fault(rt, bands, number as usize, pair);
+            say_fault(rt, bands, Agreed::of(layout, number as usize), pair);
             return;
         }
         total = total.plus(pair.counts);

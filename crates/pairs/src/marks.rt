@@ -1,5 +1,6 @@
 // Sets of bands: the stereo bands of a pair, and its QMF bands.
 use layout::Layout;
+use std::fmt;
 
 // At most 64 bands, a bit for each.
 #[derive(Clone, Copy, Debug, PartialEq, Eq)]
@@ -42,22 +43,13 @@ pub struct Columns {
 
 // The QMF band of a hybrid channel (Figures 8.20 and 8.22).
 fn column(layout: Layout, channel: usize) -> usize {
-    match layout {
-        Layout::Bands20 => match channel {
-            0..=5 => 0,
-            6..=7 => 1,
-            8..=9 => 2,
-            _ => channel - 7,
-        },
-        Layout::Bands34 => match channel {
-            0..=11 => 0,
-            12..=19 => 1,
-            20..=23 => 2,
-            24..=27 => 3,
-            28..=31 => 4,
-            _ => channel - 27,
-        },
+    let split = layout.split();
+    if layout.unsplit_from() <= channel {
+        return channel - layout.unsplit_from() + split;
     }
+    (1..split)
+        .filter(|p| layout.first_channel(*p) <= channel)
+        .count()
 }
 
 // The stereo bands that have a channel in a QMF band.
@@ -72,15 +64,43 @@ fn bands_in(layout: Layout, band: usize) -> Bands {
     bands
 }
 
-// The stereo bands that the runs of a pair agree on: one alone for each of the first pairs, then for each split QMF band all that have a channel in it.
-pub fn bands_of(layout: Layout, pair: usize) -> Bands {
-    let count = layout.bands();
-    if pair < count {
-        let mut bands = Bands::NONE;
-        bands.insert(pair);
-        bands
-    } else {
-        bands_in(layout, pair - count)
+// What the runs of a pair agree on: one stereo band alone, or all that have a channel in a split QMF band.
+#[derive(Clone, Copy)]
+pub enum Agreed {
+    Stereo(usize),
+    Split(usize),
+}
+
+impl Agreed {
+    // The first pairs are those of the stereo bands.
+    pub fn of(layout: Layout, pair: usize) -> Agreed {
+        let count = layout.bands();
+        if pair < count {
+            Agreed::Stereo(pair)
+        } else {
+            Agreed::Split(pair - count)
+        }
+    }
+
+    // Its stereo bands.
+    pub fn bands(self, layout: Layout) -> Bands {
+        match self {
+            Agreed::Stereo(band) => {
+                let mut bands = Bands::NONE;
+                bands.insert(band);
+                bands
+            }
+            Agreed::Split(band) => bands_in(layout, band),
+        }
+    }
+}
+
+impl fmt::Display for Agreed {
+    fn fmt<W: fmt::Write>(&self, f: &mut fmt::Formatter<W>) -> fmt::Result {
+        match self {
+            Agreed::Stereo(band) => write!(f, "stereo band {band}"),
+            Agreed::Split(band) => write!(f, "split QMF band {band}"),
+        }
     }
 }
 

@@ -1,21 +1,28 @@
 // A pair of runs from fresh decoders.
 use super::compare::Compared;
-use super::marks::{Bands, Columns};
+use super::marks::{Agreed, Bands, Columns};
 use super::scene::FRAMES;
 use super::{chance, compare, line, marks, scene, sound};
 use layout::Layout;
+use run_stream::side::Side;
 use std::fmt;
 
 // The places of all frames of an output.
 const PLACES: usize = 24576;
+
+// Which of a pair's two runs.
+#[derive(Clone, Copy, Debug, PartialEq, Eq)]
+pub enum Turn {
+    First,
+    Second,
+}
 
 // One run of a pair, and the stereo bands and QMF bands that its two runs agree on.
 #[derive(Clone, Copy)]
 pub struct Run {
     pub layout: Layout,
     pub pair: u32,
-    // 0 or 1.
-    pub number: u32,
+    pub turn: Turn,
     pub bands: Bands,
     pub columns: Bands,
 }
@@ -25,21 +32,6 @@ pub struct Run {
 struct Sides {
     left: [f64; PLACES],
     right: [f64; PLACES],
-}
-
-#[derive(Clone, Copy, Debug, PartialEq, Eq)]
-pub enum Side {
-    Left,
-    Right,
-}
-
-impl fmt::Display for Side {
-    fn fmt<W: fmt::Write>(&self, f: &mut fmt::Formatter<W>) -> fmt::Result {
-        f.write_str(match self {
-            Side::Left => "left",
-            Side::Right => "right",
-        })
-    }
 }
 
 // How many numbers came out alike, and of both sides, how many QMF bands are left free, and how many of these came out different.
@@ -96,20 +88,21 @@ impl Pair {
     }
 }
 
+// Whether the frame is accepted.
 fn play_frame(
     memory: &mut [f64],
     run: &Run,
     frame: u32,
     left: &mut [f64],
     right: &mut [f64],
-) -> u32 {
+) -> bool {
     let seed = chance::branch(chance::branch(1, run.pair), frame);
     let line = line::line_of(run, frame, seed);
     // As many rows as a frame of 32 slots reads.
     let mut input = [0.0; 4864];
     sound::fill(&mut input, run, frame, seed);
     let edge = scene::edge_of(run.pair, frame);
-    lefasumu::lefasumu_frame(memory, line.characters(), &input, edge, left, right)
+    lefasumu::lefasumu_frame(memory, line.characters(), &input, edge, left, right) == 0
 }
 
 // One run, each frame into its 4,096 places of both outputs: how many of its frames are accepted.
@@ -125,7 +118,7 @@ fn play_run(run: &Run, sides: &mut Sides) -> u64 {
         let end = from + 128 * slots;
         let left = &mut sides.left[from..end];
         let right = &mut sides.right[from..end];
-        if play_frame(&mut memory, run, frame, left, right) == 0 {
+        if play_frame(&mut memory, run, frame, left, right) {
             accepted = accepted.wrapping_add(1);
         }
     }
@@ -152,12 +145,12 @@ fn pair_of(accepted: u64, held: Bands, left: Compared, right: Compared) -> Pair 
 }
 
 pub fn play_pair(layout: Layout, pair: u32) -> Pair {
-    let bands = marks::bands_of(layout, pair as usize);
+    let bands = Agreed::of(layout, pair as usize).bands(layout);
     let Columns { agreed, held } = marks::columns_of(layout, bands);
     let run = Run {
         layout,
         pair,
-        number: 0,
+        turn: Turn::First,
         bands,
         columns: agreed,
     };
@@ -167,7 +160,10 @@ pub fn play_pair(layout: Layout, pair: u32) -> Pair {
     };
     let mut others = sides;
     let accepted = play_run(&run, &mut sides).wrapping_add(play_run(
-        &Run { number: 1, ..run },
+        &Run {
+            turn: Turn::Second,
+            ..run
+        },
         &mut others,
     ));
     let end = 128 * scene::slots_of(pair);

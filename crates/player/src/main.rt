@@ -6,19 +6,17 @@ mod frames;
 mod report;
 
 use frames::{Run, Stop, Streams};
-use programme::files::Failed;
+use programme::files::{Failed, HELD, PIECE};
 use programme::{arguments, files};
 use std::env::Env;
 use std::fs::{File, Files};
 use text_lines::Line;
 
-// A line of more characters than the longest has is refused whatever they are, so one more than that is all that is held of it.
-const HELD: usize = limits::DIGITS + 1;
-
 // Plays the lines to their end.
 fn play(rt: &(impl Env + Print + Eprint), run: &mut Run) {
     let mut line = Line::<HELD>::new();
-    let mut piece = [0u8; 65536];
+    let mut piece = [0u8; PIECE];
+    // Kept: these turns stand in stages/lines.rt too: (c) shared as a function handed an FnMut, `each` was not proved to leave it callable for the next piece.
     // A proved loop has to end: no file uses up these turns.
     for _ in 0..u64::MAX {
         let Ok(used) = files::read_some(rt, files::LINES, &run.streams.lines, &mut piece) else {

@@ -12,6 +12,12 @@ pub const LINES: usize = 3;
 
 pub const SAMPLES: usize = 4;
 
+// As many bytes as are read and written at a time.
+pub const PIECE: usize = 65536;
+
+// A cue line of more characters than the longest has is refused whatever they are, so one more than that is all that is held of it.
+pub const HELD: usize = limits::DIGITS + 1;
+
 // Something failed, and what the system refused has been told.
 #[derive(Clone, Copy, Debug, PartialEq, Eq)]
 pub struct Failed;
@@ -86,6 +92,7 @@ pub fn read_some(
 }
 
 // Reads until the memory is full or the file ends.
+// Kept: a loop of reads: (a) the count of the bytes before the file's end is promised, and `read_exact` does not say it.
 pub fn read_all(
     rt: &(impl Env + Eprint),
     place: usize,

@@ -3,18 +3,15 @@ ghost use Rattle.std.specs.Prelude.{◌≡◌, ◌+◌, ◌≤◌, min, length, 
 ghost use Rattle.programme.specs.Rows.{carried_rows};
 
 use crate::files;
-use crate::files::Failed;
+use crate::files::{Failed, PIECE};
 use std::env::Env;
 use std::fs::File;
 
 // What a frame hears at most: 32 rows of its own and the six ahead of them.
 pub const HEARD: usize = 38 * 128;
 
-// As many bytes as files are read and written at a time.
-const BYTES: usize = 65536;
-
 // Rows of bytes, to the rows of `input` from a row on; the rows after them are silent.
-fn load(bytes: &[u8; BYTES], rows: usize, from: usize, input: &mut [f64; HEARD])
+fn load(bytes: &[u8; PIECE], rows: usize, from: usize, input: &mut [f64; HEARD])
     requires { from + rows ≤ 38 }
 {
     let behind = (from + rows) * 128;
@@ -27,7 +24,7 @@ fn read_rows(
     rt: &(impl Env + Eprint),
     file: &File,
     wanted: usize,
-    bytes: &mut [u8; BYTES],
+    bytes: &mut [u8; PIECE],
 ) -> Result<usize, Failed>
     requires { wanted ≤ 38 }
     ensures { IfOk result (λ rows. rows ≤ wanted) }
@@ -51,7 +48,7 @@ pub fn fetch(
         return Err(Failed);
     };
     let ahead = ahead.min(6);
-    let mut bytes = [0u8; BYTES];
+    let mut bytes = [0u8; PIECE];
     let rows = read_rows(rt, file, slots.min(32) + 6 - ahead, &mut bytes)?;
     load(&bytes, rows, ahead, input);
     Ok(rows)
@@ -77,7 +74,7 @@ pub fn write(
     if 4096 < numbers.len() {
         return Err(Failed);
     }
-    let mut bytes = [0u8; BYTES];
+    let mut bytes = [0u8; PIECE];
     let used = numbers.len() * 8;
     float_bytes::write_floats(numbers, &mut bytes[..used]);
     files::write_all(rt, place, file, &bytes[..used])

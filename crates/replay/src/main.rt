@@ -6,6 +6,7 @@
 mod sides;
 mod text;
 
+use answer::Answer;
 use run_stream::head::{Head, Kind};
 use run_stream::{head, input};
 use sides::Sides;
@@ -24,11 +25,11 @@ impl Counts {
         }
     }
 
-    fn count(&mut self, answer: u32) {
+    fn count(&mut self, answer: Answer) {
         self.frames = self.frames.wrapping_add(1);
         match answer {
-            0 => self.accepted = self.accepted.wrapping_add(1),
-            1 => self.quiet = self.quiet.wrapping_add(1),
+            Answer::Done => self.accepted = self.accepted.wrapping_add(1),
+            Answer::Quiet => self.quiet = self.quiet.wrapping_add(1),
             _ => self.refused = self.refused.wrapping_add(1),
         }
     }
@@ -64,18 +65,20 @@ impl Replay {
         lefasumu::lefasumu_start(&mut self.memory, asked);
     }
 
-    fn play(&mut self, head: Head) -> u32 {
+    fn play(&mut self, head: Head) -> Answer {
         self.sides.mark();
         let left = &mut self.sides.left[..];
         let right = &mut self.sides.right[..];
-        lefasumu::lefasumu_frame(
+        let number = lefasumu::lefasumu_frame(
             &mut self.memory,
             &self.line[..head.line.min(head::LINE)],
             &self.input[..head.input.min(head::INPUT)],
             head.number,
             &mut left[..head.left.min(head::SIDE)],
             &mut right[..head.right.min(head::SIDE)],
-        )
+        );
+        // No call has another number than an answer's.
+        Answer::try_from(number).unwrap_or(Answer::Sample)
     }
 
     // A call with what it hands in, which stands behind its head.
@@ -89,8 +92,7 @@ impl Replay {
             &mut self.line,
             &mut self.bytes,
             &mut self.input,
-        )
-        .ok_or(Fault::Broken)?;
+        )?;
         let answer = self.play(head);
         self.sides.agree(reader, head, answer, &mut self.bytes)?;
         self.counts.count(answer);
@@ -100,7 +102,7 @@ impl Replay {
     // One record of the stream.
     fn step(&mut self, reader: &mut impl Read) -> Result<(), Stop> {
         let place = self.counts.place();
-        let Some(head) = input::next_head(reader, &mut self.bytes) else {
+        let Ok(head) = input::next_head(reader, &mut self.bytes) else {
             return Err(Stop::At(place, Fault::Broken));
         };
         match head.kind {

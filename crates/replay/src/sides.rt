@@ -1,6 +1,8 @@
 // Both outputs of a call, compared with what the stream says.
-use crate::text::{Fault, Side};
+use crate::text::Fault;
+use answer::Answer;
 use run_stream::head::Head;
+use run_stream::side::Side;
 use run_stream::{head, input};
 use std::io::Read;
 
@@ -30,7 +32,7 @@ fn same(
     numbers: &[f64],
     bytes: &mut [u8],
 ) -> Result<(), Fault> {
-    let bytes = input::fill(reader, bytes, numbers.len().saturating_mul(8)).ok_or(Fault::Broken)?;
+    let bytes = input::fill(reader, bytes, numbers.len().saturating_mul(8))?;
     let pairs = numbers.iter().zip(bytes.chunks_exact(8));
     for (place, (number, eight)) in pairs.enumerate() {
         let bits = float_bytes::bits_of(*number);
@@ -65,14 +67,14 @@ impl Sides {
         &self,
         reader: &mut impl Read,
         head: Head,
-        answer: u32,
+        answer: Answer,
         bytes: &mut [u8],
     ) -> Result<(), Fault> {
-        let wanted = u32::from(head.answer);
-        if answer != wanted {
+        let wanted = head.answer;
+        if u8::from(answer) != wanted {
             return Err(Fault::Answer { answer, wanted });
         }
-        if answer != 0 {
+        if answer != Answer::Done {
             untouched(Side::Left, &self.left)?;
             return untouched(Side::Right, &self.right);
         }

@@ -1,4 +1,7 @@
 // What the replay says when it stops: a line of standard output.
+use answer::Answer;
+use run_stream::input::Broken;
+use run_stream::side::Side;
 use std::fmt;
 
 // Runs begun, calls of the last of them that agree, and all calls by what they answered.
@@ -18,19 +21,14 @@ pub struct Place {
     pub frame: u64,
 }
 
-#[derive(Clone, Copy)]
-pub enum Side {
-    Left,
-    Right,
-}
-
 // What is wrong with a call, or with the stream there.
 #[derive(Clone, Copy)]
 pub enum Fault {
     Broken,
+    // Kept: the answer wanted is a number: (a) the line printed has whatever byte the stream has, an answer's number or not.
     Answer {
-        answer: u32,
-        wanted: u32,
+        answer: Answer,
+        wanted: u8,
     },
     Touched(Side),
     Differs {
@@ -48,12 +46,9 @@ pub enum Stop {
     At(Place, Fault),
 }
 
-impl fmt::Display for Side {
-    fn fmt<W: fmt::Write>(&self, f: &mut fmt::Formatter<W>) -> fmt::Result {
-        f.write_str(match self {
-            Side::Left => "left",
-            Side::Right => "right",
-        })
+impl From<Broken> for Fault {
+    fn from(_broken: Broken) -> Fault {
+        Fault::Broken
     }
 }
 
@@ -63,7 +58,9 @@ impl fmt::Display for Fault {
             Fault::Broken => f.write_str(
                 "the stream breaks off, or has a record that it cannot have",
             ),
-            Fault::Answer { answer, wanted } => write!(f, "answer {answer}, wanted {wanted}"),
+            Fault::Answer { answer, wanted } => {
+                write!(f, "answer {}, wanted {wanted}", u8::from(answer))
+            }
             Fault::Touched(side) => write!(f, "not accepted, and yet it wrote to {side}"),
             Fault::Differs {
                 side,

@@ -1,1 +1,2 @@
+pub mod Chance
 pub mod Heads

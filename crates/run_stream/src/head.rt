@@ -39,6 +39,7 @@ impl TryFrom<u8> for Kind {
 #[derive(Clone, Copy)]
 pub struct Head {
     pub kind: Result<Kind, u8>,
+    // Kept: a number: (a) replay prints whatever byte the stream has as the answer wanted, an answer's number or not.
     pub answer: u8,
     // The spectrum edge of a call, the asked slots of a run.
     pub number: usize,

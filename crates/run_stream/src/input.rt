@@ -1,28 +1,31 @@
 // What a call hands in: the line's characters and the samples, from the stream, which `reader` reads.
-ghost use Rattle.std.specs.Prelude.{◌≡◌, ◌≤◌, IfSome, length};
+ghost use Rattle.std.specs.Prelude.{◌≡◌, ◌≤◌, IfOk, length};
 
-use crate::head;
 use crate::head::Head;
+use crate::{chance, head};
 use std::io::Read;
 
-// Reads that many bytes to the front of lent memory, and answers them. None, and nothing is read, where there is no room for them; None where the input ends
-// before.
-pub fn fill<'a>(reader: &mut impl Read, memory: &'a mut [u8], count: usize) -> Option<&'a [u8]>
-    ensures { IfSome result (λ bytes. (length bytes.now ≡ count) × (count ≤ length memory.old)) }
+// The input ends within what is asked of it, or cannot be read; or there is no room for what is asked.
+#[derive(Clone, Copy, Debug, PartialEq, Eq)]
+pub struct Broken;
+
+// Reads that many bytes to the front of lent memory, and answers them. Nothing is read where there is no room for them.
+pub fn fill<'a>(
+    reader: &mut impl Read,
+    memory: &'a mut [u8],
+    count: usize,
+) -> Result<&'a [u8], Broken>
+    ensures { IfOk result (λ bytes. (length bytes.now ≡ count) × (count ≤ length memory.old)) }
 {
-    let bytes = memory.get_mut(..count)?;
-    reader.read_exact(bytes).ok()?;
-    Some(bytes)
+    let bytes = memory.get_mut(..count).ok_or(Broken)?;
+    reader.read_exact(bytes).map_err(|_| Broken)?;
+    Ok(bytes)
 }
 
-// The next record's head; none where the input ends before it.
-pub fn next_head(reader: &mut impl Read, memory: &mut [u8]) -> Option<Head> {
-    Some(head::read(fill(reader, memory, head::SIZE)?))
-}
-
-// x' = (x * 1664525 + 1013904223) mod 2^32.
-fn next(state: u32) -> u32 {
-    state.wrapping_mul(1664525).wrapping_add(1013904223)
+// The next record's head.
+pub fn next_head(reader: &mut impl Read, memory: &mut [u8]) -> Result<Head, Broken> {
+    let bytes = fill(reader, memory, head::SIZE)?;
+    Ok(head::read(bytes))
 }
 
 // (x' - 2^31) times a step; the difference is exact.
@@ -35,7 +38,7 @@ fn noise(samples: &mut [f64], head: Head) {
     let mut state = head.state;
     for (place, sample) in samples.iter_mut().enumerate() {
         *sample = if head.noisy(place) {
-            state = next(state);
+            state = chance::step(state);
             number(state, head.step)
         } else {
             0.0
@@ -53,17 +56,17 @@ fn give(samples: &mut [f64], given: &[u8]) {
     }
 }
 
-// The line and the samples of a call. None where the input ends before.
+// The line and the samples of a call.
 pub fn load(
     reader: &mut impl Read,
     head: Head,
     line: &mut [u8],
     bytes: &mut [u8],
     samples: &mut [f64],
-) -> Option<()> {
+) -> Result<(), Broken> {
     fill(reader, line, head.line)?;
     let given = fill(reader, bytes, 12 * head.given.min(head::INPUT))?;
     noise(samples, head);
     give(samples, given);
-    Some(())
+    Ok(())
 }

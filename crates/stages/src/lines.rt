@@ -4,7 +4,7 @@ ghost use Rattle.std.specs.Prelude.{◌≤◌};
 use super::both;
 use super::both::Both;
 use super::play::{Call, INPUT, SIDE};
-use programme::files::Failed;
+use programme::files::{Failed, HELD, PIECE};
 use programme::{arguments, files, rows};
 use std::env::Env;
 use std::fs::{File, Files};
@@ -12,9 +12,6 @@ use text_lines::Line;
 
 // The place of the channel's number among the arguments, which may lack it.
 const CHANNEL: usize = 5;
-
-// A line of more characters than the longest has is refused whatever they are, so one more than that is all that is held of it.
-const HELD: usize = limits::DIGITS + 1;
 
 // The files of a programme.
 #[derive(Drop)]
@@ -97,8 +94,9 @@ impl Run {
 
     fn play_all(&mut self, rt: &(impl Env + Print + Eprint), streams: &Streams) {
         let mut line = Line::<HELD>::new();
-        let mut piece = [0u8; 65536];
+        let mut piece = [0u8; PIECE];
         self.both.start(self.asked);
+        // Kept: these turns stand in player/main.rt too: (c) shared as a function handed an FnMut, `each` was not proved to leave it callable for the next piece.
         // A proved loop has to end: no file uses up these turns.
         for _ in 0..u64::MAX {
             let Ok(used) = files::read_some(rt, files::LINES, &streams.lines, &mut piece) else {

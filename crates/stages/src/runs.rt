@@ -3,6 +3,7 @@ use super::both;
 use super::both::Both;
 use super::play::Call;
 use run_stream::head::{Head, Kind};
+use run_stream::input::Broken;
 use run_stream::{head, input};
 use std::io::Read;
 use std::ops::ControlFlow;
@@ -25,9 +26,9 @@ struct Run {
 
 impl Run {
     // A side of the stream is passed over.
-    fn pass(&mut self, reader: &mut impl Read, count: usize) -> Option<()> {
+    fn pass(&mut self, reader: &mut impl Read, count: usize) -> Result<(), Broken> {
         input::fill(reader, &mut self.bytes, 8 * count.min(head::SIDE))?;
-        Some(())
+        Ok(())
     }
 
     fn play(&mut self, rt: &impl Print, record: Head) {
@@ -48,9 +49,14 @@ impl Run {
     }
 
     // A call with what it hands in, which stands behind its head. What an accepted call has behind it, both sides, is passed over.
-    fn call(&mut self, rt: &impl Print, reader: &mut impl Read, record: Head) -> Option<()> {
+    fn call(
+        &mut self,
+        rt: &impl Print,
+        reader: &mut impl Read,
+        record: Head,
+    ) -> Result<(), Broken> {
         if !record.fits() {
-            return None;
+            return Err(Broken);
         }
         input::load(
             reader,
@@ -64,11 +70,11 @@ impl Run {
             self.pass(reader, record.left)?;
             self.pass(reader, record.right)?;
         }
-        Some(())
+        Ok(())
     }
 
     fn step(&mut self, rt: &impl Print, reader: &mut impl Read) -> ControlFlow<End> {
-        let Some(record) = input::next_head(reader, &mut self.bytes) else {
+        let Ok(record) = input::next_head(reader, &mut self.bytes) else {
             return ControlFlow::Break(End::Broken);
         };
         match record.kind {
@@ -78,8 +84,8 @@ impl Run {
                 ControlFlow::Continue(())
             }
             Ok(Kind::Call) => match self.call(rt, reader, record) {
-                Some(()) => ControlFlow::Continue(()),
-                None => ControlFlow::Break(End::Broken),
+                Ok(()) => ControlFlow::Continue(()),
+                Err(Broken) => ControlFlow::Break(End::Broken),
             },
             Err(_) => ControlFlow::Break(End::Broken),
         }
