@@ -102,6 +102,7 @@ pub fn read_all(
     ensures { IfOk result (λ count. count ≤ length bytes.old) }
 {
     let mut done = 0;
+    // Kept: a turn goes on by as many bytes as a read brought; std reads a file whole into heap memory only.
     while done < bytes.len() {
         match read_some(rt, place, file, &mut bytes[done..])? {
             0 => break,

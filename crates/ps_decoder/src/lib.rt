@@ -18,6 +18,7 @@ use ps_data::Resolved;
 use ps_state::{PsCarried, PsDecoder, SOUND};
 
 // An accepted frame, whose input is long enough.
+// Kept: seven parameters, those of the call with its line resolved: a struct would be made for this call and taken apart two lines on.
 fn play(
     carried: PsCarried,
     sound: &mut [f64; SOUND],
@@ -40,6 +41,7 @@ fn play(
 // A frame: a cue line, the input's QMF rows, the spectrum edge, and the two outputs. What is small in the state goes by value and comes back once the frame is
 // accepted; its sound is lent, so that nothing large is copied. A call that is not accepted says its answer and changes nothing; sound of another length is
 // refused as a buffer is.
+// Kept: seven parameters: a public function keeps its parameters and its clauses, and C hands them on one by one.
 pub fn lent_frame(
     carried: PsCarried,
     sound: &mut [f64],

@@ -34,7 +34,8 @@ fn mixed(
 }
 
 // The stages after the coefficients: the samples and the ducking factors, then both kinds of channels into left and right. They stand apart from `sound`,
-// so that no stack holds both these arrays and the tables of the coefficients.
+// so that no stack holds both these arrays and the rows of an envelope.
+// Kept: seven parameters: each stage below takes its own of them, so that a struct would be taken apart at every call.
 fn stages(
     carried: PsCarried,
     timing: Timing,

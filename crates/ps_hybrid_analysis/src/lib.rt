@@ -152,6 +152,7 @@ fn split_bands(
 }
 
 // A frame of the asked slots. Input that is too short is refused, and so are lists without room for the layout; nothing changes then.
+// Kept: an answer and no Result, since document 01 ("Forms by place") has the driver take named answers apart by let .. else.
 pub fn analyse(
     layout: Layout,
     asked: usize,
