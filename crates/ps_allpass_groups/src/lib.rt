@@ -28,7 +28,8 @@ fn marks(layout: Layout, g: usize) -> Marks
 }
 
 // One slot of a group, on its part of the delays and on its desk.
-// Kept: with `&mut [f64; 136]` for the desk the check stopped at a bug of its own, where it is lent as a slice and then as an array.
+// Kept: slices here, in chain and in mixing: with `&mut [f64; 136]` for the desk the proof did not close, for the check stopped at a fault of its own where
+// the desk is lent as a slice and then as an array.
 fn group(part: &mut [f64], desk: &mut [f64], turn: usize, t: f64, held: bool, marks: Marks)
     requires { (length part.old ≡ 112) × (length desk.old ≡ 136) }
     ensures { Grouped turn t held (λ i. mark_of i marks) part.old desk.old part.new desk.new }

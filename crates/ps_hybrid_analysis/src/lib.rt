@@ -102,7 +102,7 @@ fn filter_band(layout: Layout, p: usize, band: Band, samples: &mut [f64])
 }
 
 // QMF band p, on its part of the history.
-// Kept: the part is a slice, (c): as an array, by `try_from` or `as_mut_array().unwrap()`, it is left open what the list has once the part is back.
+// Kept: the part is a slice, here and in band: as an array, by `try_from` or `as_mut_array().unwrap()`, it is left open what the list has once it is back.
 fn split_band(
     layout: Layout,
     p: usize,
