@@ -39,6 +39,7 @@ pub struct Header {
 }
 
 // The rows of a kind in a line: whether they are there, how many deltas each has, and the byte at which the first row begins.
+// Kept: `present` is a flag beside the place, since the next kind begins at the place of one that is absent (specs/Fields `places_of`, `behind`).
 #[derive(Clone, Copy)]
 pub struct Block {
     pub present: bool,
@@ -57,6 +58,7 @@ pub struct Places {
 }
 
 // A line that is read: what it says, where its rows stand, and its bytes with zeros after them.
+// Kept: as many bytes as the longest line has, since fixed memory without a heap is a rule of the project; `places.end` says how many are its own.
 #[derive(Clone, Copy)]
 pub struct Cue {
     pub header: Header,

@@ -38,6 +38,7 @@ pub fn samples(layout: Layout, n: usize, split: &[f64], input: &[f64], row: &mut
 }
 
 // A complex number whose im stands `apart` places behind its re.
+// Kept: `cell`, `put` and `band` are plain ones of the bench, like some of the decoder's: what is compared with the decoder stands apart from its code.
 fn cell(xs: &[f64], at: usize, apart: usize) -> Complex
     requires { at + apart < length xs.now }
     ensures { result ≡ cell apart xs.now at }

@@ -141,7 +141,8 @@ fn duck_row(detectors: &mut [f64], b: usize, gains: &mut [f64], slots: usize)
     keep(detectors, b, one);
 }
 
-// Four bands from b on. Each waits for its own last slot, so four at once take little longer than one.
+// Four bands from b on.
+// Kept: four at once beside one, since each waits for its own last slot, so that four take little longer than one.
 fn duck_four(detectors: &mut [f64], b: usize, gains: &mut [f64], slots: usize)
     requires { (3 * b + 12 ≤ length detectors.old) × (32 * b + 128 ≤ length gains.old) × (slots ≤ 32) }
     ensures { Ducked b (b + 4) slots detectors.old gains.old detectors.new gains.new }

@@ -48,6 +48,7 @@ pub fn delay(queue: &mut [f64], x: Complex) -> Complex
 }
 
 // A link of an all-pass chain: w of d slots before comes out, and the new w goes in.
+// Kept: the decoder has a link of four lanes: what is compared with it stands apart from its code, and goes number by number.
 pub fn link(queue: &mut [f64], u: Complex, constants: Link) -> Complex
     requires { 2 ≤ length queue.old }
     ensures answer { result ≡ link_output u constants (oldest_of queue.old) }
