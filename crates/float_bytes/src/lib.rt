@@ -79,7 +79,7 @@ fn spill(xs: &[f64], out: &mut [u8])
     }
 }
 
-// Kept: a `bool`, for `moved` of the definition `filled` has it, and both callers hand on rows that fit and need no answer.
+// Kept: a `bool`: a Result is no plainer, for every caller hands on rows that fit and drops the answer.
 // Reads a row of floats. True exactly if there are eight bytes to a float; otherwise nothing is written.
 #[tactic(auto, unfolding(crate::specs::Bytes::filled))]
 pub fn read_floats(b: &[u8], out: &mut [f64]) -> bool
@@ -92,7 +92,7 @@ pub fn read_floats(b: &[u8], out: &mut [f64]) -> bool
     true
 }
 
-// Kept: a `bool`, for `moved` of the definition `written` has it, and its caller hands on a row that fits.
+// Kept: a `bool`: a Result is no plainer, for its caller hands on a row that fits and drops the answer.
 // Writes a row of floats. True exactly if there are eight bytes to a float; otherwise nothing is written.
 #[tactic(auto, unfolding(crate::specs::Bytes::written))]
 pub fn write_floats(xs: &[f64], out: &mut [u8]) -> bool

@@ -85,7 +85,6 @@ fn side(marked: bool, runs: &[f64], first: usize, second: usize, s: Complex, d: 
 
 // Left and right of slot n, of every channel, by the coefficients of each band, four runs of 32 slots. Nothing changes where n is above 31, or a list is too
 // short.
-// Kept: seven parameters: a public function keeps its parameters and its clauses.
 pub fn mix(
     layout: Layout,
     n: usize,

@@ -92,7 +92,7 @@ pub fn read_some(
 }
 
 // Reads until the memory is full or the file ends.
-// Kept: a loop of reads: (a) the count of the bytes before the file's end is promised, and `read_exact` does not say it.
+// Kept: a loop of reads: `read_exact` does not say how many bytes came before the file's end, whose whole rows are still played.
 pub fn read_all(
     rt: &(impl Env + Eprint),
     place: usize,
@@ -102,7 +102,6 @@ pub fn read_all(
     ensures { IfOk result (λ count. count ≤ length bytes.old) }
 {
     let mut done = 0;
-    // Kept: a turn goes on by as many bytes as a read brought; std reads a file whole into heap memory only.
     while done < bytes.len() {
         match read_some(rt, place, file, &mut bytes[done..])? {
             0 => break,

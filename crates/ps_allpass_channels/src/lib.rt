@@ -144,7 +144,6 @@ fn frame(
 }
 
 // What a frame's channels have in common is lent: rotations, samples, ducking factors, the coefficients at the borders, the input, and the delays.
-// Kept: ten parameters: a public function keeps its parameters and its clauses.
 pub fn allpass_channels(
     layout: Layout,
     timing: Timing,

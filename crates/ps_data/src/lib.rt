@@ -64,7 +64,6 @@ pub fn layout_in(old: Layout, header: Header) -> Layout
 }
 
 // The answer of a line that is read, by whether a configuration has come before it.
-// Kept: an answer and no Result, since document 01 ("Forms by place") has the driver take named answers apart by let .. else.
 pub fn read_answer(header: Header, configured: bool) -> Answer
     ensures { result ≡ read_answer header configured }
 {

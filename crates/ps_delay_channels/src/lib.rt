@@ -65,7 +65,6 @@ fn frame(
 
 // The channels above the all-pass ones, of a frame. What they have in common is lent: the input, ducking factors, the
 // coefficients at the borders, and the memory of every delay.
-// Kept: eight parameters, (a): a public function keeps its parameters and its clauses.
 pub fn delay_channels(
     layout: Layout,
     timing: Timing,

@@ -102,7 +102,6 @@ fn filter_band(layout: Layout, p: usize, band: Band, samples: &mut [f64])
 }
 
 // QMF band p, on its part of the history.
-// Kept: the part is a slice, here and in band: as an array, by `try_from` or `as_mut_array().unwrap()`, it is left open what the list has once it is back.
 fn split_band(
     layout: Layout,
     p: usize,
@@ -152,7 +151,6 @@ fn split_bands(
 }
 
 // A frame of the asked slots. Input that is too short is refused, and so are lists without room for the layout; nothing changes then.
-// Kept: an answer and no Result, since document 01 ("Forms by place") has the driver take named answers apart by let .. else.
 pub fn analyse(
     layout: Layout,
     asked: usize,

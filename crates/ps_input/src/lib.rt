@@ -27,7 +27,6 @@ fn buffers_fit(slots: usize, input: usize, left: usize, right: usize) -> bool
 }
 
 // The answer of the input, for an asked number of slots and the outputs' lengths: done, or a refusal.
-// Kept: an answer and no Result, since document 01 ("Forms by place") has the driver take named answers apart by let .. else.
 pub fn input_answer(asked: usize, input: &[f64], left: usize, right: usize) -> Answer
     ensures { result ≡ input_answer (slots_of asked) input.now left right }
 {

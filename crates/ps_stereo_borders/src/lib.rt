@@ -73,7 +73,6 @@ fn envelopes(frame: Frame, count: usize, directions: &[i64], phases: &mut [i8], 
 
 // The borders of a frame's envelopes, cut to the limit, from a lent table of directions: each band's course gets the kept coefficients and those of each
 // envelope; the last ones are kept. Nothing changes where a list has no room for the layout's bands.
-// Kept: seven parameters, (a): a public function keeps its parameters and its clauses.
 pub fn coefficients(
     layout: Layout,
     header: Header,

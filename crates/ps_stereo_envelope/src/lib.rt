@@ -171,7 +171,6 @@ fn each(tables: Tables, border: Border, phases: &mut [i8], rows: &mut [f64])
 
 // Envelope e of a frame, from lent tables of coefficients and directions. Nothing changes where the phase indices or the rows have no room for the
 // layout's bands.
-// Kept: eight parameters, (a): a public function keeps its parameters and its clauses.
 pub fn envelope(
     coefficients: &[i64; 2944],
     directions: &[i64],

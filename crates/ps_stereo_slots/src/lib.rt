@@ -260,7 +260,6 @@ fn envelopes(rows: &[f64], at: usize, ways: Ways, slots: usize, out: &mut [f64; 
 }
 
 // A band of 34 over at most 32 slots, envelopes cut to the limit. Nothing changes where the rows have no course of the band.
-// Kept: seven parameters, (a): a public function keeps its parameters and its clauses.
 pub fn interpolate(
     rows: &[f64],
     fractions: &[f64; limits::FRACTIONS],

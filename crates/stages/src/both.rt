@@ -8,7 +8,6 @@ use super::{carried, play};
 pub struct Both {
     memory: [f64; lefasumu::MEMORY],
     carried: Carried,
-    // Kept: the number that the C function returns, which is printed as it is.
     pub answer: u32,
     // Accepted frames, numbers that were compared, and those that differ.
     frames: u64,
