@@ -53,8 +53,12 @@ fn clear_chains(delays: &mut [f64], k: usize)
 pub fn reset_chains(layout: Layout, k: usize, delays: &mut [f64])
     ensures { delays.new ≡ delays_reset layout k delays.old }
 {
-    if 112 * layout.groups() <= delays.len() && layout.kind(k) == Kind::AllPass {
-        clear_chains(delays, k);
+    if delays.len() < 112 * layout.groups() {
+        return;
+    }
+    match layout.kind(k) {
+        Kind::AllPass => clear_chains(delays, k),
+        Kind::Long | Kind::Short => {}
     }
 }
 
