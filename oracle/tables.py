@@ -7,7 +7,7 @@ import pathlib
 import re
 import sys
 
-# crate, constant, how many numbers it must have
+# crate, static, how many numbers it must have
 WANTED = [
     ("mixing_table", "MIXING", 2944),
     ("phase_table", "PHASE", 1024),
@@ -20,13 +20,13 @@ WANTED = [
 
 
 def numbers(folder, crate, name):
-    """The numbers of one constant, in the order of the crate's texts."""
+    """The numbers of one table, in the order of the crate's texts."""
     source = folder / crate / "src"
     text = "\n".join(path.read_text() for path in sorted(source.glob("*.rt")))
     text = re.sub(r"//[^\n]*", "", text)
-    found = re.findall(r"const %s: \[i64; \d+\] = \[([^\]]*)\]" % name, text)
+    found = re.findall(r"static %s: \[i64; \d+\] = \[([^\]]*)\]" % name, text)
     if len(found) != 1:
-        sys.exit(f"tables.py: table {name}: {len(found)} constants of that name in {source}, "
+        sys.exit(f"tables.py: table {name}: {len(found)} statics of that name in {source}, "
                  "1 wanted")
     parts = [part.strip() for part in found[0].split(",")]
     return [int(part) for part in parts if part]
