@@ -10,21 +10,21 @@ pub loop-n-init : goal.loop-n-init
 loop-n-init c =
     keeping_none c.args.position c.args.slots c.args.input.now c.args.long.now _ (omega (arith, c.saturating_sub-n.ensures)) c.requires.0
 
-pub copy_from_slice-requires : goal.copy_from_slice-requires
-copy_from_slice-requires c =
+pub copy-requires : goal.copy-requires
+copy-requires c =
     let n = c.loop-n.n in
     let from = 128 * n + 46 in
     let at = 24 * ((c.args.position + n) % 14) in
-    lent_long at 24 (at + 24 - at) c.loop-n.long (width at 24) (omega (arith, c.loop-n.invariant.whole))
-    ∙ sym (lent_long from 24 (from + 24 - from) c.args.input.now (width from 24) (omega (arith, c.requires.3, c.loop-n-test.true)))
+    lent_long from 24 (from + 24 - from) c.args.input.now (width from 24) (omega (arith, c.requires.3, c.loop-n-test.true))
+    ∙ sym (lent_long at 24 (at + 24 - at) c.loop-n.long (width at 24) (omega (arith, c.loop-n.invariant.whole)))
 
 pub loop-n-preserved : goal.loop-n-preserved
 loop-n-preserved c =
     let n = c.loop-n.n in
     let from = 128 * n + 46 in
     let at = 24 * ((c.args.position + n) % 14) in
-    keeping_more c.loop-n.invariant (from + 24 - from) (at + 24 - at) c.copy_from_slice.new.self (width from 24) (width at 24) c.loop-n-test.true c.copy_from_slice.ensures.after
-    (c.copy_from_slice.ensures.len ∙ lent_long at 24 (at + 24 - at) c.loop-n.long (width at 24) (omega (arith, c.loop-n.invariant.whole)))
+    keeping_more c.loop-n.invariant (from + 24 - from) (at + 24 - at) c.copy.new.to (width from 24) (width at 24) c.loop-n-test.true c.copy.ensures
+    (c.copy.auto.to ∙ lent_long at 24 (at + 24 - at) c.loop-n.long (width at 24) (omega (arith, c.loop-n.invariant.whole)))
 
 pub shape_of-long : goal.shape_of-long
 shape_of-long c = c.loop-n.invariant.whole ∙ sym c.requires.0
