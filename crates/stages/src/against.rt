@@ -4,7 +4,7 @@ ghost use Rattle.std.specs.Prelude.{◌≤◌};
 
 use super::carried::Carried;
 use super::compare::{Fault, Stage};
-use super::play::{Call, INPUT};
+use super::play::{Call, INPUT, Stages};
 use super::stream::{Head, Piece};
 use super::{carried, compare, play, stream};
 use layout::Layout;
@@ -68,9 +68,8 @@ impl Replay {
             input: &input,
             wanted: None,
         };
-        let Some(numbers) = play::play(rt, call, &mut self.carried) else {
-            return Err(Fault::Refused);
-        };
+        let mut numbers = Stages::none();
+        play::play(rt, call, &mut self.carried, &mut numbers).ok_or(Fault::Refused)?;
         let held = match layout {
             Layout::Bands20 => &mut self.of_20,
             Layout::Bands34 => &mut self.of_34,

@@ -1,6 +1,6 @@
 // A frame through the decoder and, where it is accepted, through the queues: both sides are compared number by number, by their bits.
 use super::carried::Carried;
-use super::play::Call;
+use super::play::{Call, Stages};
 use super::{carried, play};
 
 // The decoder's memory and the queues', the last answer, and what was compared so far.
@@ -58,11 +58,12 @@ impl Both {
 
     // The queues' frame after an accepted one of the decoder's.
     fn beside(&mut self, rt: &impl Print, call: Call, left: &[f64], right: &[f64]) {
-        let Some(stages) = play::play(rt, call, &mut self.carried) else {
+        let mut stages = Stages::none();
+        if play::play(rt, call, &mut self.carried, &mut stages).is_none() {
             // The decoder has read it.
             self.differing = self.differing.wrapping_add(1);
             return;
-        };
+        }
         self.frames = self.frames.wrapping_add(1);
         self.compare(&stages.left, left);
         self.compare(&stages.right, right);

@@ -40,19 +40,19 @@ pub struct Stages {
     pub right: [f64; SIDE],
 }
 
-// Before the first slot.
-fn none() -> Stages {
-    Stages {
-        samples: [0.0; ROWS],
-        decorrelated: [0.0; ROWS],
-        lefts: [0.0; ROWS],
-        rights: [0.0; ROWS],
-        left: [0.0; SIDE],
-        right: [0.0; SIDE],
-    }
-}
-
 impl Stages {
+    // Before the first slot. Its numbers are some 250 KB: whoever wants a frame's lends them, so that none is copied.
+    pub fn none() -> Stages {
+        Stages {
+            samples: [0.0; ROWS],
+            decorrelated: [0.0; ROWS],
+            lefts: [0.0; ROWS],
+            rights: [0.0; ROWS],
+            left: [0.0; SIDE],
+            right: [0.0; SIDE],
+        }
+    }
+
     // Both sides of slot n, from its samples and their de-correlation.
     fn mix(
         &mut self,
@@ -113,7 +113,8 @@ fn through(
     call: Call,
     carried: &mut Carried,
     runs: &[f64],
-) -> Stages {
+    stages: &mut Stages,
+) {
     // A slot's part of the list has room for all channels whichever slot it begins with.
     let mut split = [0.0; 2080];
     ps_hybrid_analysis::analyse(
@@ -123,18 +124,17 @@ fn through(
         call.input,
         &mut split,
     );
-    let mut stages = none();
     for n in 0..begun.slots.min(32).min(call.input.len() / 128) {
         let at = 128 * n;
         carried.queues = stages.slot(carried.queues, n, &split[n..], &call.input[at..], runs);
-        sheet::slot(rt, &carried.queues, n, call.wanted, &stages);
+        sheet::slot(rt, &carried.queues, n, call.wanted, stages);
     }
-    stages
 }
 
-// The numbers of a frame at every stage. Nothing moves, and there are none, where its line is not read.
-pub fn play(rt: &impl Print, call: Call, carried: &mut Carried) -> Option<Stages> {
+// The numbers of a frame at every stage, to those that are lent. Nothing moves, and there are none, where its line is not read.
+pub fn play(rt: &impl Print, call: Call, carried: &mut Carried, stages: &mut Stages) -> Option<()> {
     let mut runs = [0.0; RUNS];
     let begun = begin::begin(rt, call, carried, &mut runs)?;
-    Some(through(rt, begun, call, carried, &runs))
+    through(rt, begun, call, carried, &runs, stages);
+    Some(())
 }
