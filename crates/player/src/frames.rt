@@ -4,7 +4,7 @@ ghost use Rattle.std.specs.Prelude.{◌≤◌};
 use crate::report;
 use crate::report::Tally;
 use answer::Answer;
-use programme::files::Failed;
+use programme::files::{Cut, Failed};
 use programme::rows;
 use std::env::Env;
 use std::fs::File;
@@ -34,6 +34,12 @@ pub enum Stop {
 
 impl From<Failed> for Stop {
     fn from(_failed: Failed) -> Stop {
+        Stop::Failed
+    }
+}
+
+impl From<Cut> for Stop {
+    fn from(_cut: Cut) -> Stop {
         Stop::Failed
     }
 }

@@ -1,5 +1,6 @@
 // Files that the program's arguments name. Each failure is told on standard error with the file's name.
-ghost use Rattle.std.specs.Prelude.{◌≡◌, ◌≤◌, length, IsUtf8, IfOk};
+ghost use Rattle.std.specs.Prelude.{◌≡◌, ◌≤◌, length, IsUtf8};
+ghost use Rattle.programme.specs.Read.{came};
 
 use crate::arguments;
 use crate::arguments::LONGEST;
@@ -21,6 +22,18 @@ pub const HELD: usize = limits::DIGITS + 1;
 // Something failed, and what the system refused has been told.
 #[derive(Clone, Copy, Debug, PartialEq, Eq)]
 pub struct Failed;
+
+// A read failed, which has been told; so many of what was asked for had come before.
+#[derive(Clone, Copy, Debug, PartialEq, Eq)]
+pub struct Cut {
+    pub came: usize,
+}
+
+impl From<Cut> for Failed {
+    fn from(_cut: Cut) -> Failed {
+        Failed
+    }
+}
 
 // The text that bytes are, and words that say so where they are none.
 pub fn text_of(bytes: &[u8]) -> &str
@@ -79,33 +92,37 @@ pub fn open_to_write<R: Files<File = File> + Env + Eprint>(
     opened(rt, place, |path| File::create(rt, path))
 }
 
-// How many bytes one read brought: none at the end of the file.
+// How many bytes one read brought: none at the end of the file, and none where it failed.
 pub fn read_some(
     rt: &(impl Env + Eprint),
     place: usize,
     mut file: &File,
     bytes: &mut [u8],
-) -> Result<usize, Failed>
-    ensures { IfOk result (λ count. count ≤ length bytes.old) }
+) -> Result<usize, Cut>
+    ensures { came result ≤ length bytes.old }
 {
-    file.read(bytes).map_err(|error| tell(rt, place, error))
+    file.read(bytes).map_err(|error| {
+        tell(rt, place, error);
+        Cut { came: 0 }
+    })
 }
 
-// Reads until the memory is full or the file ends.
+// Reads until the memory is full, the file ends or a read fails.
 // Kept: a loop of reads: `read_exact` does not say how many bytes came before the file's end, whose whole rows are still played.
 pub fn read_all(
     rt: &(impl Env + Eprint),
     place: usize,
     file: &File,
     bytes: &mut [u8],
-) -> Result<usize, Failed>
-    ensures { IfOk result (λ count. count ≤ length bytes.old) }
+) -> Result<usize, Cut>
+    ensures { came result ≤ length bytes.old }
 {
     let mut done = 0;
     while done < bytes.len() {
-        match read_some(rt, place, file, &mut bytes[done..])? {
-            0 => break,
-            count => done += count,
+        match read_some(rt, place, file, &mut bytes[done..]) {
+            Ok(0) => break,
+            Ok(count) => done += count,
+            Err(_) => return Err(Cut { came: done }),
         }
     }
     Ok(done)

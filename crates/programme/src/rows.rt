@@ -1,9 +1,10 @@
 // Rows of 64 complex numbers between files and memory: 128 numbers, 1,024 bytes.
-ghost use Rattle.std.specs.Prelude.{◌≡◌, ◌+◌, ◌≤◌, min, length, IfOk};
+ghost use Rattle.std.specs.Prelude.{◌≡◌, ◌+◌, ◌≤◌, min};
+ghost use Rattle.programme.specs.Read.{came};
 ghost use Rattle.programme.specs.Rows.{carried_rows};
 
 use crate::files;
-use crate::files::{Failed, PIECE};
+use crate::files::{Cut, Failed, PIECE};
 use std::env::Env;
 use std::fs::File;
 
@@ -25,27 +26,31 @@ fn read_rows(
     file: &File,
     wanted: usize,
     bytes: &mut [u8; PIECE],
-) -> Result<usize, Failed>
+) -> Result<usize, Cut>
     requires { wanted ≤ 38 }
-    ensures { IfOk result (λ rows. rows ≤ wanted) }
+    ensures { came result ≤ wanted }
 {
-    let count = files::read_all(rt, files::SAMPLES, file, &mut bytes[..wanted * 1024])?;
-    Ok(count / 1024)
+    match files::read_all(rt, files::SAMPLES, file, &mut bytes[..wanted * 1024]) {
+        Ok(count) => Ok(count / 1024),
+        Err(cut) => Err(Cut {
+            came: cut.came / 1024,
+        }),
+    }
 }
 
-// Reads rows to follow the `ahead` rows, six at most, that `input` begins with, up to the last of a frame's rows ahead, and answers how many came; a frame has
-// 32 slots at most. A row that the file's end cuts short does not count. Nothing is read where `input` has not 38 rows.
+// Reads rows to follow the `ahead` rows, six at most, that `input` begins with, up to the last of a frame's rows ahead, and answers how many came, also where
+// a read fails; a frame has 32 slots at most. A row that the file's end cuts short does not count. Nothing is read where `input` has not 38 rows.
 pub fn fetch(
     rt: &(impl Env + Eprint),
     file: &File,
     slots: usize,
     ahead: usize,
     input: &mut [f64],
-) -> Result<usize, Failed>
-    ensures { IfOk result (λ rows. rows + min ahead 6 ≤ min slots 32 + 6) }
+) -> Result<usize, Cut>
+    ensures { came result + min ahead 6 ≤ min slots 32 + 6 }
 {
     let Ok(input) = <&mut [f64; HEARD]>::try_from(input) else {
-        return Err(Failed);
+        return Err(Cut { came: 0 });
     };
     let ahead = ahead.min(6);
     let mut bytes = [0u8; PIECE];
