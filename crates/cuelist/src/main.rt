@@ -4,12 +4,15 @@
 
 mod text;
 
+ghost use Rattle.std.specs.Prelude.{⊤};
+
 use answer::Answer;
 use programme::files::{HELD, PIECE};
 use ps_data::{PsIndices, PsLines};
 use std::io::{ErrorKind, Read};
 use std::process::ExitCode;
 use text::Text;
+use text_lines::Hearer;
 
 // What became of the output: all was written so far, or not all, or it has no reader any more.
 #[derive(Clone, Copy, Debug, PartialEq, Eq)]
@@ -53,6 +56,21 @@ impl Listing {
     }
 }
 
+// A listing, and where it is written.
+#[derive(Drop)]
+struct Lister<'a, P: Print> {
+    listing: &'a mut Listing,
+    out: &'a P,
+}
+
+impl<P: Print> Hearer for Lister<'_, P> {
+    ghost hears = { λ before line after. ⊤ };
+
+    fn hear(&mut self, line: &[u8]) {
+        self.listing.list_line(self.out, line);
+    }
+}
+
 // The status of a program that is stopped because nobody reads its output any more.
 const UNREAD: u8 = 141;
 
@@ -81,7 +99,11 @@ fn main(rt: HostRuntime) -> ExitCode {
     // A proved loop has to end: no input uses up these turns. What cannot be read ends the input too.
     for _ in 0..u64::MAX {
         let used = reader.read(&mut input).unwrap_or(0);
-        line.each(&input[..used], |text| listing.list_line(&rt, text));
+        let mut lister = Lister {
+            listing: &mut listing,
+            out: &rt,
+        };
+        line.each(&input[..used], &mut lister);
         if used == 0 || listing.output == Output::Unread {
             break;
         }

@@ -5,18 +5,35 @@
 mod frames;
 mod report;
 
+ghost use Rattle.std.specs.Prelude.{⊤};
+
 use frames::{Run, Stop, Streams};
 use programme::files::{Failed, HELD, PIECE};
 use programme::{arguments, files};
 use std::env::Env;
 use std::fs::{File, Files};
-use text_lines::Line;
+use text_lines::{Hearer, Line};
+
+// A run, and what it says its frames to.
+#[derive(Drop)]
+struct Player<'a, R: Env + Print + Eprint> {
+    run: &'a mut Run,
+    rt: &'a R,
+}
+
+impl<R: Env + Print + Eprint> Hearer for Player<'_, R> {
+    ghost hears = { λ before line after. ⊤ };
+
+    fn hear(&mut self, line: &[u8]) {
+        self.run.end_line(self.rt, line);
+    }
+}
 
 // Plays the lines to their end.
 fn play(rt: &(impl Env + Print + Eprint), run: &mut Run) {
     let mut line = Line::<HELD>::new();
     let mut piece = [0u8; PIECE];
-    // Kept: these turns stand in stages/lines.rt too: (c) shared as a function handed an FnMut, `each` was not proved to leave it callable for the next piece.
+    // Kept: these turns stand in stages/lines.rt too: (c) the run that hears the lines holds their file, so that no function could be lent both.
     // A proved loop has to end: no file uses up these turns.
     for _ in 0..u64::MAX {
         let Ok(used) = files::read_some(rt, files::LINES, &run.streams.lines, &mut piece) else {
@@ -26,7 +43,7 @@ fn play(rt: &(impl Env + Print + Eprint), run: &mut Run) {
         if used == 0 {
             break;
         }
-        line.each(&piece[..used], |text| run.end_line(rt, text));
+        line.each(&piece[..used], &mut Player { run, rt });
     }
     if 0 < line.count {
         run.end_line(rt, line.held());

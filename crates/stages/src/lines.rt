@@ -1,5 +1,5 @@
 // A programme through the decoder and through the queues, side by side.
-ghost use Rattle.std.specs.Prelude.{◌≤◌};
+ghost use Rattle.std.specs.Prelude.{⊤, ◌≤◌};
 
 use super::both;
 use super::both::Both;
@@ -8,7 +8,7 @@ use programme::files::{Failed, HELD, PIECE};
 use programme::{arguments, files, rows};
 use std::env::Env;
 use std::fs::{File, Files};
-use text_lines::Line;
+use text_lines::{Hearer, Line};
 
 // The place of the channel's number among the arguments, which may lack it.
 const CHANNEL: usize = 5;
@@ -96,7 +96,7 @@ impl Run {
         let mut line = Line::<HELD>::new();
         let mut piece = [0u8; PIECE];
         self.both.start(self.asked);
-        // Kept: these turns stand in player/main.rt too: (c) shared as a function handed an FnMut, `each` was not proved to leave it callable for the next piece.
+        // Kept: these turns stand in player/main.rt too: (c) the run that hears the lines there holds their file, so that no function could be lent both.
         // A proved loop has to end: no file uses up these turns.
         for _ in 0..u64::MAX {
             let Ok(used) = files::read_some(rt, files::LINES, &streams.lines, &mut piece) else {
@@ -106,13 +106,32 @@ impl Run {
             if used == 0 {
                 break;
             }
-            line.each(&piece[..used], |text| {
-                self.end_line(rt, &streams.samples, text)
-            });
+            let mut player = Player {
+                run: self,
+                rt,
+                samples: &streams.samples,
+            };
+            line.each(&piece[..used], &mut player);
         }
         if 0 < line.count {
             self.end_line(rt, &streams.samples, line.held());
         }
+    }
+}
+
+// A run, what it says its frames to, and the samples that it plays.
+#[derive(Drop)]
+struct Player<'a, R: Env + Print + Eprint> {
+    run: &'a mut Run,
+    rt: &'a R,
+    samples: &'a File,
+}
+
+impl<R: Env + Print + Eprint> Hearer for Player<'_, R> {
+    ghost hears = { λ before line after. ⊤ };
+
+    fn hear(&mut self, line: &[u8]) {
+        self.run.end_line(self.rt, self.samples, line);
     }
 }
 

@@ -1,10 +1,10 @@
 -- A part laid behind the characters of a room: as much of it is copied as there is room for. Assumes nothing.
-use mathlib.Core.Path.{◌≡◌, refl, sym, ap}
+use mathlib.Core.Path.{◌≡◌, refl, sym, ap, ◌∙◌}
 use mathlib.Core.List.{List, [], ◌∷◌, ◌++◌}
 use Prim.Native.Nat.{ℕ, zero, suc, ◌+◌, ◌-◌, min}
-use native.Mathlib.Nat.{suc-add, zero-min, suc-min-suc}
+use native.Mathlib.Nat.{zero-add, suc-add, zero-min, suc-min-suc}
 use native.Mathlib.Omega.{arith}
-use lib.ListN.{length, take, drop, length-append, length-take, length-drop, take-append-drop}
+use lib.ListN.{length, take, drop, set, length-append, length-take, length-drop, take-append-drop}
 use lib.Seq.{take-nil, drop-nil, take-length}
 use Rattle.lists.specs.Part.{put}
 use Rattle.text_lines.specs.Lines.{laid}
@@ -31,6 +31,14 @@ laid_cut l c p = rw (take_cut c l, drop_cut c l)
 pub laid_none : (l : List ℕ) (c : ℕ) → laid l c [] ≡ l
 unfolding laid
 laid_none l c = rw (take-append-drop c l, take-length l)
+
+-- one character more is one store more
+pub laid_more : (l : List ℕ) (c : ℕ) (p : List ℕ) (v : ℕ) → laid l c (p ++ (v ∷ [])) ≡ set (laid l c p) (c + length p) v
+unfolding laid
+laid_more [] c p v = refl
+laid_more (x ∷ l) zero [] v = refl
+laid_more (x ∷ l) zero (y ∷ p) v = rw zero-add (ap (λ (t : List ℕ). y ∷ t) (laid_more l zero p v ∙ rw zero-add))
+laid_more (x ∷ l) (suc c) p v = rw suc-add (ap (λ (t : List ℕ). x ∷ t) (laid_more l c p v))
 
 -- ---- what is copied is what is laid
 front_copied : (l p : List ℕ) → take (min (length p) (length l)) p ++ drop (min (length p) (length l)) l ≡ take (length l) (p ++ drop (length p) l)

@@ -2,11 +2,18 @@
 // them: so memory does not grow with the text, and of a line that is longer than the room the count is known still.
 #![tactic(auto)]
 
-ghost use Rattle.std.specs.Prelude.{◌≡◌, take, replicate, option_map};
-ghost use Rattle.std.specs.Fn.{CalledAt};
+ghost use Rattle.std.specs.Prelude.{◌≡◌, List, ℕ, take, replicate, option_map};
 ghost use Rattle.std.specs.List.{FoldsTo};
 ghost use Rattle.lists.specs.First.{before};
 ghost use Rattle.text_lines.specs.Lines.{of_line, laid, stepped, step_of, begun, left_by, ended_in};
+
+// Whoever hears the lines of a text as they end: `hears` says what a line, as it is held, makes of the hearer.
+pub trait Hearer {
+    ghost hears: { Self → List ℕ → Self → Type 0 };
+
+    fn hear(&mut self, line: &[u8])
+        ensures { hears self.old line.now self.new };
+}
 
 #[derive(Clone, Copy)]
 pub struct Line<const N: usize> {
@@ -77,15 +84,14 @@ impl<const N: usize> Line<N> {
         step(&mut self.room, &mut self.count, piece)
     }
 
-    // Takes a piece of the text: `end` is handed each line that ends in it, and the line is then the one that the piece leaves begun.
-    pub fn each<F: FnMut(&[u8])>(&mut self, piece: &[u8], mut end: F)
-        requires { F.IsAlwaysCallable end }
-        ensures lines { (last : F) × FoldsTo (λ p x q. CalledAt F.FnMut p x tt q) end (ended_in self.old.room self.old.count piece.now) last }
+    // Takes a piece of the text: each line that ends in it is heard, and the line is then the one that the piece leaves begun.
+    pub fn each<H: Hearer>(&mut self, piece: &[u8], hearer: &mut H)
+        ensures lines { FoldsTo H.hears hearer.old (ended_in self.old.room self.old.count piece.now) hearer.new }
         ensures left { begun self.new.room self.new.count ≡ left_by self.old.room self.old.count piece.now }
     {
         let mut rest = piece;
         while let Some(behind) = self.take(rest) {
-            end(self.held());
+            hearer.hear(self.held());
             self.count = 0;
             rest = behind;
         }

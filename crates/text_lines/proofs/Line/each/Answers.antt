@@ -1,7 +1,6 @@
--- `text_lines::Line::each` meets its contract: a step to a newline hands on a line more, and the last one leaves what the piece leaves. Assumes nothing.
-use Rattle.std.proofs.Common.{rules, ◌≡◌, sym, ap, ◌∙◌, refl, Option, option_map, List, ℕ, Bor}
-use denote.Param.Always.{mut_next}
-use denote.Param.Members.{Called}
+-- `text_lines::Line::each` meets its contract: a step to a newline lets a line more be heard, and the last one leaves what the piece leaves. Assumes nothing.
+use Rattle.std.proofs.Common.{◌≡◌, sym, ap, ◌∙◌, refl, Option, option_map, List, ℕ, Bor}
+use mathlib.Core.Path.{subst}
 use Rattle.text_lines.specs.Lines.{stepped, step_of}
 use Rattle.text_lines.proofs.Steps.{behind_shorter}
 use Rattle.text_lines.proofs.Pieces.{step_rest, ran_on}
@@ -20,18 +19,15 @@ pub loop-behind-preserved : goal.loop-behind-preserved
 loop-behind-preserved g c =
     let v = c.loop-behind.invariant in
     let h = ran_on _ _ _ _ _ _ (known _ _ _ _ _ _ _ c.in-Some.is c.take.ensures) in
-    let called : Called g.F.FnMut c.loop-behind.end (c.held.result, tt) tt c.end.new.self = search rules in (
-      mut_next g.F.FnMut c.loop-behind.end (c.held.result, tt) tt c.end.new.self c.end.new.self called refl v.0,
-      sym h.0 ∙ v.1,
-      λ last f. v.2 last (rw h.1 (c.end.new.self, record { shown = c.held.result; shows = c.held.ensures; called = called }, f)),
-    )
+    let heard = subst (λ (t : List ℕ). g.H.Hearer.hears c.loop-behind.hearer t c.hear.new.self) c.held.ensures c.hear.ensures in
+    (sym h.0 ∙ v.0, λ last f. v.1 last (rw h.1 (c.hear.new.self, heard, f)))
 
 pub returns-clause-lines : goal.returns-clause-lines
 returns-clause-lines g c =
     let h = ran_on _ _ _ _ _ _ (known _ _ _ _ _ _ _ c.in_default.is c.take.ensures) in
-    (c.loop-behind.end, c.loop-behind.invariant.2 _ (rw h.1 refl))
+    c.loop-behind.invariant.1 _ (rw h.1 refl)
 
 pub returns-clause-left : goal.returns-clause-left
 returns-clause-left g c =
     let h = ran_on _ _ _ _ _ _ (known _ _ _ _ _ _ _ c.in_default.is c.take.ensures) in
-    sym h.0 ∙ c.loop-behind.invariant.1
+    sym h.0 ∙ c.loop-behind.invariant.0
