@@ -49,3 +49,11 @@ module _ (a b : ℤ) (h : mag a < 128) (k : mag b < 128) where
   pub second_back : second_in (kept_pair a b) ≡ b
   unfolding second_in
   second_back = ap (λ (n : ℕ). index_of (n % 256)) numbers_back ∙ ap index_of (low_part (shift_of a) (shift_of b) (shift_small b k)) ∙ index_back b k
+
+pub first_small : (x : Float) → mag (first_in x) < 128
+unfolding first_in
+first_small x = index_small (number_in 65535 x / 256) (omega (arith, number_within 65535 x))
+
+pub second_small : (x : Float) → mag (second_in x) < 128
+unfolding second_in
+second_small x = index_small (number_in 65535 x % 256) (omega arith)

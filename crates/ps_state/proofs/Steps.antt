@@ -61,7 +61,7 @@ module _ (l : Layout) (s : PsCarried) (m q r : List Float) (long : length m ≡ 
   back_length : length r ≡ 272
   back_length = ap length back ∙ remapped_length l (part matrices_at 272 m)
 
-  changed_length : length changed ≡ sound_long
+  pub changed_length : length changed ≡ sound_long
   changed_length = same_len_mid matrices_at 272 quiet r (back_length ∙ sym lent_back) ∙ quiet_length
 
   -- a part before the coefficients

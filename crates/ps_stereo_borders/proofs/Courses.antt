@@ -32,7 +32,7 @@ use Rattle.ps_stereo_borders.specs.Borders.{kept_then, courses_then}
 use Rattle.ps_stereo_borders.specs.Steps.{copied}
 use Rattle.ps_stereo_borders.proofs.Parts.{numbers_kept, border_put}
 use Rattle.ps_stereo_borders.proofs.Phases.{then_next, phases_at, phases_part}
-use Rattle.ps_stereo_borders.proofs.Runs.{runs_cut, run_at, runs_part, runs_drop}
+use Rattle.ps_stereo_borders.proofs.Runs.{runs_cut, run_at, runs_part, runs_drop, runs_length}
 
 module _ (l : Layout) (h : Header) (indices : PsIndices) (directions : List ℤ) (matrices : List Float) (phases : List ℤ) where
   abbrev bands : ℕ
@@ -75,6 +75,9 @@ module _ (l : Layout) (h : Header) (indices : PsIndices) (directions : List ℤ)
 
     course_long : (e b : ℕ) → b < bands → length (course_at e b) ≡ limits.course
     course_long e b u = rows_length (border_at e b) 8 limits.borders (border_long e b u)
+
+    pub after_long : (e : ℕ) → length (after e) ≡ length lent
+    after_long e = ap length (after_is e) ∙ runs_length (course_at e) limits.course bands (course_long e) lent wide
 
     after_part : (e b : ℕ) → b < bands → part (limits.course * b) limits.course (after e) ≡ course_at e b
     after_part e b u = ap (part (limits.course * b) limits.course) (after_is e) ∙ runs_part (course_at e) limits.course bands (course_long e) (drop (limits.course * bands) lent) b u
