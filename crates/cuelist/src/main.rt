@@ -4,7 +4,8 @@
 
 mod text;
 
-ghost use Rattle.std.specs.Prelude.{⊤};
+ghost use Rattle.std.specs.Prelude.{⊤, ◌≡◌};
+ghost use Rattle.ps_data.specs.Indices.{resolve_line, left_by};
 
 use answer::Answer;
 use programme::files::{HELD, PIECE};
@@ -32,7 +33,9 @@ struct Listing {
 }
 
 impl Listing {
-    fn write(&mut self, out: &impl Print, answer: Answer, indices: &PsIndices) {
+    fn write(&mut self, out: &impl Print, answer: Answer, indices: &PsIndices)
+        ensures { self.new.lines ≡ self.old.lines }
+    {
         self.text.put_line(self.number, answer, indices);
         if let Err(error) = out.write_all(self.text.bytes()) {
             self.output = match (self.output, error.kind()) {
@@ -42,8 +45,10 @@ impl Listing {
         }
     }
 
-    // One line of the input, without its newline.
-    fn list_line(&mut self, out: &impl Print, line: &[u8]) {
+    // One line of the input, without its newline. What the lines have left goes on as they say it does: a refused line leaves it as it was.
+    fn list_line(&mut self, out: &impl Print, line: &[u8])
+        ensures { self.new.lines ≡ (left_by self.old.lines (resolve_line self.old.lines line.now)).lines }
+    {
         self.number = self.number.wrapping_add(1);
         match ps_data::resolve(self.lines, line) {
             Ok(read) => {
