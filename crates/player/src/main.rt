@@ -33,7 +33,7 @@ impl<R: Env + Print + Eprint> Hearer for Player<'_, R> {
 fn play(rt: &(impl Env + Print + Eprint), run: &mut Run) {
     let mut line = Line::<HELD>::new();
     let mut piece = [0u8; PIECE];
-    // Kept: these turns stand in stages/lines.rt too: (c) the run that hears the lines holds their file, so that no function could be lent both.
+    // Kept: these turns stand in stages/lines.rt too: (d) the run that hears the lines holds their file, which a shared function would have to be lent beside it.
     // A proved loop has to end: no file uses up these turns.
     for _ in 0..u64::MAX {
         let Ok(used) = files::read_some(rt, files::LINES, &run.streams.lines, &mut piece) else {

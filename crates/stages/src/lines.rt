@@ -96,7 +96,7 @@ impl Run {
         let mut line = Line::<HELD>::new();
         let mut piece = [0u8; PIECE];
         self.both.start(self.asked);
-        // Kept: these turns stand in player/main.rt too: (c) the run that hears the lines there holds their file, so that no function could be lent both.
+        // Kept: these turns stand in player/main.rt too: (d) the run that hears the lines there holds their file, which a shared function would have to be lent beside it.
         // A proved loop has to end: no file uses up these turns.
         for _ in 0..u64::MAX {
             let Ok(used) = files::read_some(rt, files::LINES, &streams.lines, &mut piece) else {
